@@ -1,0 +1,7 @@
+pub mod Comparing
+pub mod Hashing
+pub mod Keys
+pub mod Padded
+pub mod PaddedCells
+pub mod PaddedSym
+pub mod Symbols
