@@ -1,0 +1,11 @@
+mod PlaceLaws
+mod SlotLaws
+mod AddLaws
+mod SlotCounts
+mod PendingLaws
+mod PairLaws
+mod QueueLaws
+mod KeepLaws
+mod ActLaws
+mod StepLaws
+mod Rows
