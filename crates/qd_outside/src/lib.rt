@@ -1,0 +1,33 @@
+//! The world outside: sources that bytes come from, sinks that they go to, and files by name.
+//!
+//! Each trait counts its faults, and that count never falls: a call fails only where the count rose. A trait tells the
+//! bytes that are left and those that were written, where they are known; the adapters over real things tell none.
+//!
+//! Beside each trait stand the one in memory whose calls fail by a plan ([`ListSource`], [`ListSink`], [`ListFiles`]),
+//! the one that never fails ([`SoundSource`], [`SoundSink`], [`SoundFiles`]), and the adapter over the real thing
+//! ([`Reading`], [`Writing`], [`RealFiles`]). [`InBuffer`] and [`OutBuffer`] move bytes in large pieces.
+#![tactic(auto)]
+
+mod files;
+mod in_buffer;
+mod list_files;
+mod memory;
+mod out_buffer;
+mod plan;
+mod real;
+mod real_files;
+mod sink;
+mod source;
+
+pub use files::{Files, SoundFiles};
+pub use in_buffer::{Fill, InBuffer};
+pub use list_files::{Asked, HeldFile, ListFiles};
+pub use memory::{ListSink, ListSource, SoundSink, SoundSource};
+pub use out_buffer::OutBuffer;
+pub use real::{Reading, Writing};
+pub use real_files::RealFiles;
+pub use sink::{Sink, Write, write_all};
+pub use source::{Read, Source};
+
+#[cfg(test)]
+mod tests;

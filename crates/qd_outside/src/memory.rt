@@ -1,0 +1,164 @@
+use crate::files::copy_some;
+use crate::plan::Plan;
+use crate::sink::{Sink, Write};
+use crate::source::{Read, Source};
+use std::alloc::Global;
+
+/// Bytes in memory. The calls for which the plan has `true` fail; those past its end do not.
+#[derive(Drop)]
+pub struct ListSource {
+    bytes: Vec<u8>,
+    at: usize,
+    plan: Plan,
+    faults: u64,
+}
+
+impl ListSource {
+    pub fn new(bytes: Vec<u8>, plan: Vec<bool>) -> ListSource {
+        ListSource {
+            bytes,
+            at: 0,
+            plan: Plan::new(plan),
+            faults: 0,
+        }
+    }
+}
+
+impl Source for ListSource {
+    ghost use Rattle.std.specs.Prelude.{Some, drop};
+
+    ghost left = { λ s. Some (drop s.at s.bytes.items) };
+
+    ghost faults = { λ s. s.faults };
+
+    fn read(&mut self, buf: &mut [u8]) -> Read {
+        if self.plan.is_next_failing() {
+            self.faults = self.faults.saturating_add(1);
+            return Read::Failed;
+        }
+        if self.at >= self.bytes.len() {
+            return Read::End;
+        }
+        let n = copy_some(&self.bytes, self.at, buf);
+        self.at += n;
+        Read::Got(n)
+    }
+}
+
+/// Bytes in memory, which are read without a fault.
+#[derive(Drop)]
+pub struct SoundSource {
+    bytes: Vec<u8>,
+    at: usize,
+}
+
+impl SoundSource {
+    pub fn new(bytes: Vec<u8>) -> SoundSource {
+        SoundSource { bytes, at: 0 }
+    }
+}
+
+impl Source for SoundSource {
+    ghost use Rattle.std.specs.Prelude.{Some, drop};
+
+    ghost left = { λ s. Some (drop s.at s.bytes.items) };
+
+    ghost faults = { λ s. 0 };
+
+    fn read(&mut self, buf: &mut [u8]) -> Read {
+        if self.at >= self.bytes.len() {
+            return Read::End;
+        }
+        let n = copy_some(&self.bytes, self.at, buf);
+        self.at += n;
+        Read::Got(n)
+    }
+}
+
+/// Bytes written to memory. The calls for which the plan has `true` fail, and so does a write without memory.
+#[derive(Drop)]
+pub struct ListSink {
+    written: Vec<u8>,
+    flushed: bool,
+    plan: Plan,
+    faults: u64,
+}
+
+impl ListSink {
+    pub fn new(alloc: Global, plan: Vec<bool>) -> ListSink {
+        ListSink {
+            written: Vec::new(alloc),
+            flushed: true,
+            plan: Plan::new(plan),
+            faults: 0,
+        }
+    }
+
+    pub fn written(&self) -> &[u8] {
+        &self.written
+    }
+
+    pub fn is_flushed(&self) -> bool {
+        self.flushed
+    }
+}
+
+impl Sink for ListSink {
+    ghost use Rattle.std.specs.Prelude.{Some};
+
+    ghost written = { λ s. Some s.written.items };
+
+    ghost flushed = { λ s. s.flushed };
+
+    ghost faults = { λ s. s.faults };
+
+    fn write(&mut self, piece: &[u8]) -> Write {
+        if self.plan.is_next_failing() || self.written.extend_from_slice(piece).is_err() {
+            self.faults = self.faults.saturating_add(1);
+            return Write::Failed;
+        }
+        self.flushed = false;
+        Write::Wrote(piece.len())
+    }
+
+    fn flush(&mut self) -> bool {
+        if self.plan.is_next_failing() {
+            self.faults = self.faults.saturating_add(1);
+            return false;
+        }
+        self.flushed = true;
+        true
+    }
+}
+
+/// A sink that keeps nothing of what it is given, and never fails.
+#[derive(Drop)]
+pub struct SoundSink {
+    flushed: bool,
+}
+
+impl SoundSink {
+    pub fn new() -> SoundSink {
+        SoundSink { flushed: true }
+    }
+}
+
+impl Sink for SoundSink {
+    ghost use Rattle.std.specs.Prelude.{None};
+
+    ghost written = { λ s. None };
+
+    ghost flushed = { λ s. s.flushed };
+
+    ghost faults = { λ s. 0 };
+
+    fn write(&mut self, piece: &[u8]) -> Write {
+        self.flushed = false;
+        Write::Wrote(piece.len())
+    }
+
+    fn flush(&mut self) -> bool {
+        self.flushed = true;
+        true
+    }
+}
