@@ -1,0 +1,4 @@
+pub mod ListLaws
+pub mod LinkLaws
+pub mod ChainLaws
+pub mod QueueLaws
