@@ -1,0 +1,12 @@
+pub mod Again
+pub mod Alive
+pub mod Ends
+pub mod Exactly
+pub mod Formed
+pub mod Fractions
+pub mod OnePass
+pub mod Places
+pub mod Shapes
+pub mod Values
+pub mod Wholes
+pub mod WholesAgain

@@ -1,0 +1,100 @@
+ghost use Rattle.std.specs.Prelude.{◌≡◌, ◌+◌, ◌-◌, ◌*◌, ◌^◌, ◌<◌, ◌≤◌, length, min, slice_range};
+ghost use Rattle.qd_decimal.specs.Grammar.{is_digit};
+ghost use Rattle.qd_decimal.specs.Numbers.{with_digit, with_digits, times};
+ghost use Rattle.qd_decimal.specs.Reading.{digits_end, zeros_end};
+
+/// Where a run of digits ends, and the number that it makes behind an earlier one, where 64 bits have it.
+#[derive(Clone, Copy)]
+pub(crate) struct Run {
+    pub end: usize,
+    pub number: Option<u64>,
+}
+
+fn is_digit(byte: u8) -> bool
+    ensures { result ≡ is_digit byte }
+{
+    byte >= b'0' && byte <= b'9'
+}
+
+fn with_digit(number: Option<u64>, digit: u8) -> Option<u64>
+    ensures { result ≡ with_digit number digit }
+{
+    let ten = number?.checked_mul(10)?;
+    ten.checked_add(u64::from(digit.saturating_sub(b'0')))
+}
+
+/// The digits from `from` on, up to `to` at most, behind those of `number`.
+pub(crate) fn run_of(number: Option<u64>, text: &[u8], from: usize, to: usize) -> Run
+    requires order { from ≤ to }
+    requires within { to ≤ length text.now }
+    ensures end { result.end ≡ min (digits_end text.now from) to }
+    ensures number { result.number ≡ with_digits number (slice_range text.now from result.end) }
+{
+    let mut at = from;
+    let mut value = number;
+    while at < to && is_digit(text[at]) {
+        value = with_digit(value, text[at]);
+        at += 1;
+    }
+    Run {
+        end: at,
+        number: value,
+    }
+}
+
+/// Where the digits from `from` on end.
+#[tactic(auto, unfolding(crate::specs::Reading::digits_end))]
+pub(crate) fn digits_end(text: &[u8], from: usize) -> usize
+    requires { from ≤ length text.now }
+    ensures end { result ≡ digits_end text.now from }
+    ensures forward { from ≤ result }
+    ensures within { result ≤ length text.now }
+{
+    let mut at = from;
+    while at < text.len() && is_digit(text[at]) {
+        at += 1;
+    }
+    at
+}
+
+/// Where the zeros from `from` on end.
+#[tactic(auto, unfolding(crate::specs::Reading::zeros_end))]
+pub(crate) fn zeros_end(text: &[u8], from: usize) -> usize
+    requires { from ≤ length text.now }
+    ensures end { result ≡ zeros_end text.now from }
+    ensures forward { from ≤ result }
+    ensures within { result ≤ length text.now }
+{
+    let mut at = from;
+    while at < text.len() && text[at] == b'0' {
+        at += 1;
+    }
+    at
+}
+
+pub(crate) fn times(number: Option<u64>, power: u64) -> Option<u64>
+    ensures { result ≡ times number power }
+{
+    number?.checked_mul(power)
+}
+
+/// What one place of a number's fraction counts for.
+#[tactic(auto, using(crate::proofs::Fractions::power_positive))]
+pub(crate) fn power_of_ten(exponent: u8) -> u64
+    requires { exponent ≤ 9 }
+    ensures value { result ≡ 10 ^ exponent }
+    ensures positive { 0 < result }
+{
+    match exponent {
+        0 => 1,
+        1 => 10,
+        2 => 100,
+        3 => 1_000,
+        4 => 10_000,
+        5 => 100_000,
+        6 => 1_000_000,
+        7 => 10_000_000,
+        8 => 100_000_000,
+        _ => 1_000_000_000,
+    }
+}
