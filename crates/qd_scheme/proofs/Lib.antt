@@ -1,2 +1,3 @@
 pub mod KeyLaws
 pub mod Padding
+pub mod Schemes

@@ -1,7 +1,11 @@
 pub mod Comparing
+pub mod Faults
+pub mod Finding
 pub mod Hashing
 pub mod Keys
+pub mod Names
 pub mod Padded
 pub mod PaddedCells
 pub mod PaddedSym
+pub mod Schemes
 pub mod Symbols

@@ -4,12 +4,26 @@
 //! [`Event`] also an index and flags. [`AgentNo`] and [`WatcherNo`] number those who subscribe and those who watch.
 #![tactic(auto)]
 
+use std::alloc::AllocError;
+
 mod cells;
+mod defs;
+mod faults;
+mod judge;
 mod key;
+mod names;
 mod numbers;
+mod scheme;
 mod sym;
 
 pub use cells::Cells;
+pub use defs::{FieldDef, FieldKind, Fields, RecordDef};
+pub use faults::{SchemeFault, SchemeWhy};
 pub use key::{Event, Key, Keyed, Record};
+pub use names::Name;
 pub use numbers::{AgentNo, WatcherNo};
+pub use scheme::Scheme;
 pub use sym::Sym;
+
+/// The allocator had no memory.
+pub type NoMemory = AllocError;

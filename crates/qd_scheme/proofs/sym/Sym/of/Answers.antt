@@ -1,5 +1,3 @@
-use Rattle.std.proofs.Common.{subst}
-use Rattle.qd_scheme.specs.Symbols.{IsSymbol}
 use Rattle.qd_scheme.proofs.Padding.{IsPadded-made, take-padded}
 use Rattle.qd_scheme.proofs.sym.Sym.of.Goals as goal
 
