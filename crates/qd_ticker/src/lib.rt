@@ -12,3 +12,6 @@ mod slots;
 mod stripe;
 
 pub use stripe::TickerStripe;
+
+#[cfg(test)]
+mod tests;
