@@ -1,3 +1,4 @@
+pub mod Builtin
 pub mod Comparing
 pub mod Faults
 pub mod Finding
@@ -8,4 +9,5 @@ pub mod Padded
 pub mod PaddedCells
 pub mod PaddedSym
 pub mod Schemes
+pub mod Stripes
 pub mod Symbols

@@ -6,6 +6,7 @@
 
 use std::alloc::AllocError;
 
+mod builtin;
 mod cells;
 mod defs;
 mod faults;
@@ -14,6 +15,7 @@ mod key;
 mod names;
 mod numbers;
 mod scheme;
+mod stripe;
 mod sym;
 
 pub use cells::Cells;
@@ -23,6 +25,7 @@ pub use key::{Event, Key, Keyed, Record};
 pub use names::Name;
 pub use numbers::{AgentNo, WatcherNo};
 pub use scheme::Scheme;
+pub use stripe::stripe_of;
 pub use sym::Sym;
 
 /// The allocator had no memory.

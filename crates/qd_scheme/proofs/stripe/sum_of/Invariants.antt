@@ -1,0 +1,8 @@
+use Rattle.std.proofs.Common.{◌≡◌, ◌≤◌, ◌*◌, take, sum}
+use Rattle.qd_scheme.proofs.stripe.sum_of.Given as goal
+
+abbrev pub invariant-loop-byte : goal.invariant-loop-byte
+invariant-loop-byte l = record {
+  sum : l.total ≡ sum (take l.byte-index l.bytes);
+  few : l.total ≤ 255 * l.byte-index;
+}
