@@ -1,0 +1,5 @@
+pub mod FreshLaws
+pub mod LossLaws
+pub mod WaitingLaws
+pub mod OwedLaws
+pub mod Rows
