@@ -1,0 +1,10 @@
+pub mod Binds
+pub mod Tabs
+pub mod NumberTexts
+pub mod PartsAgain
+pub mod Plain
+pub mod LinesAgain
+pub mod ControlAgain
+pub mod CanonicalAgain
+pub mod Three
+pub mod Rows
