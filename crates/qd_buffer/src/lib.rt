@@ -4,5 +4,7 @@
 #![tactic(auto)]
 
 mod buffer;
+mod split;
 
 pub use buffer::Buffer;
+pub use split::split_by_stripe;
