@@ -1,0 +1,5 @@
+pub mod Entries
+pub mod Nodes
+pub mod Depth
+pub mod Stocked
+pub mod Stocks
