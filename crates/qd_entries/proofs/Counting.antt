@@ -19,4 +19,4 @@ length-le-total (b ∷ bs) = omega (arith, length-le-total bs, sum_by-cons (λ (
 pub total-push : {T E : Type 0} (r : Result T E) (xs ys : List (Box Node Global)) (b : Box Node Global) → IsOk r
     → ys ≡ (if is_ok r then xs ++ b ∷ [] else xs) → total ys ≡ total xs + node_count b.value
 total-push (Ok x) xs ys b h e = ap total e ∙ sum_by_push (λ (x : Box Node Global). node_count x.value) xs b
-total-push (Err x) xs ys b h e = absurd h
+total-push (Err x) xs ys b h e = cc h

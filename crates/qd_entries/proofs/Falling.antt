@@ -4,7 +4,7 @@ use Rattle.std.specs.Prelude.{if◌then◌else◌, ◌==◌, nat_lt, nat_le}
 use Rattle.std.proofs.lemmas.Bool.{lt-ltb, le-ltb, eq-eqb, ne_eqb, eqb-true, eqb-false, ltb-true, ltb-false}
 use Rattle.std.proofs.lemmas.Bool.Decides.{nat_tests}
 use Rattle.qd_entries.specs.declared.Entry.{Entry}
-use Rattle.qd_entries.specs.declared.Cells.{Cells}
+use Rattle.qd_scheme.specs.declared.cells.Cells.{Cells}
 use Rattle.qd_entries.specs.Entries.{AllBelow, Falls, cells_at, put_entry, without_index, entry_at_or_below}
 
 pub AllBelow-front : (i : ℕ) (xs ys : List Entry) → AllBelow i (xs ++ ys) → AllBelow i xs

@@ -1,7 +1,7 @@
 -- What is known of the entries d of a tree with the node n on top.
-use Rattle.std.proofs.Common.{◌≡◌, ℕ, ◌<◌, ◌≤◌, List, ◌∷◌, ◌++◌, length, sym, ap, ◌∙◌, subst, arith, Option, Some, None, length-append}
+use Rattle.std.proofs.Common.{◌≡◌, ℕ, ◌<◌, ◌≤◌, List, ◌∷◌, ◌++◌, sym, ap, ◌∙◌, subst, Option, Some, None}
 use Rattle.qd_entries.specs.declared.Entry.{Entry}
-use Rattle.qd_entries.specs.declared.Cells.{Cells}
+use Rattle.qd_scheme.specs.declared.cells.Cells.{Cells}
 use Rattle.qd_entries.specs.declared.tree.Node.{Node}
 use Rattle.qd_entries.specs.Nodes.{entries_of_node}
 use Rattle.qd_entries.specs.Entries.{Falls, cells_at, put_entry, without_index, entry_at_or_below}

@@ -1,7 +1,7 @@
 -- Lists of entries in falling order of index, and what stands at an index.
-use Rattle.std.specs.Prelude.{◌≡◌, ℕ, ◌<◌, ◌==◌, nat_lt, nat_le, List, [], ◌∷◌, Option, Some, None, if◌then◌else◌}
+use Rattle.std.specs.Prelude.{ℕ, ◌<◌, ◌==◌, nat_lt, nat_le, List, [], ◌∷◌, Option, Some, None, if◌then◌else◌}
 use Rattle.qd_entries.specs.declared.Entry.{Entry}
-use Rattle.qd_entries.specs.declared.Cells.{Cells}
+use Rattle.qd_scheme.specs.declared.cells.Cells.{Cells}
 
 -- each entry is below the index
 abbrev pub AllBelow : ℕ → List Entry → Type 0

@@ -3,3 +3,5 @@ pub mod Nodes
 pub mod Depth
 pub mod Stocked
 pub mod Stocks
+pub mod Kept
+pub mod Keeping

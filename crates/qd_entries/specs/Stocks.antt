@@ -1,5 +1,5 @@
 -- How a stock keeps its nodes.
-use Rattle.std.specs.Prelude.{◌≡◌, ◌+◌, ◌^◌, ◌<◌, ◌≤◌, vec_capacity}
+use Rattle.std.specs.Prelude.{◌≡◌, ◌^◌, ◌<◌, ◌≤◌, vec_capacity}
 use Rattle.std.specs.List.{sum_by}
 use Rattle.qd_entries.specs.declared.stock.Stock.TheInside.{Inside}
 use Rattle.qd_entries.specs.Stocked.{Stocked}

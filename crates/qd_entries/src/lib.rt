@@ -1,24 +1,16 @@
 //! The entries of one key: cells by index, in falling order of index, in room that is reserved ahead.
 #![tactic(auto)]
 
+mod entries;
 mod stock;
 mod tree;
 
-/// Some cells.
-#[derive(Clone, Copy)]
-pub struct Cells {
-    pub first: u64,
-}
+pub use entries::Entries;
+use qd_scheme::Cells;
 
 /// The cells at one index.
-#[derive(Clone, Copy)]
+#[derive(Clone, Copy, Debug, PartialEq, Eq)]
 pub struct Entry {
     pub index: u64,
     pub cells: Cells,
-}
-
-impl Cells {
-    pub fn new() -> Cells {
-        Cells { first: 0 }
-    }
 }

@@ -55,7 +55,7 @@ impl Stock {
     }
 
     /// Puts a tree below a node into the stock.
-    fn keep(&mut self, tree: Tree)
+    pub fn keep(&mut self, tree: Tree)
         requires { self.old.spare + length tree ≤ self.old.room }
         ensures spare { self.new.spare ≡ self.old.spare + length tree }
         ensures room { self.new.room ≡ self.old.room }
@@ -76,11 +76,12 @@ impl Stock {
         let _ = self.nodes.push(node);
     }
 
-    /// Makes the room at least this; a room of 2^32 or more is refused like want of memory.
-    pub fn widen(&mut self, room: u64) -> Result<(), AllocError>
+    /// Makes the room at least this. A room of 2^32 or more is refused, like want of memory.
+    fn widen(&mut self, room: u64) -> Result<(), AllocError>
         ensures ok { OnOk result (room ≤ self.new.room) }
         ensures spare { self.new.spare ≡ self.old.spare }
         ensures room { self.old.room ≤ self.new.room }
+        ensures few { self.new.room < 2 ^ 32 }
     {
         if room <= self.room {
             return Ok(());
@@ -97,7 +98,7 @@ impl Stock {
     }
 
     /// Makes a new node.
-    pub fn add(&mut self) -> Result<(), AllocError>
+    fn add(&mut self) -> Result<(), AllocError>
         requires { self.old.spare < self.old.room }
         ensures ok { OnOk result (self.new.spare ≡ self.old.spare + 1) }
         ensures err { OnErr result (self.new ≡ self.old) }
@@ -106,6 +107,25 @@ impl Stock {
         let alloc = *self.nodes.allocator();
         let node = Box::new(alloc, Node::new())?;
         self.give(node);
+        Ok(())
+    }
+
+    /// Makes new nodes until so many are spare, with room for those that are in use too.
+    pub fn fill(&mut self, used: u64, spare: u64) -> Result<(), AllocError>
+        requires used { self.old.spare + used ≤ self.old.room }
+        requires few { spare < 2 ^ 32 }
+        ensures ok { OnOk result (spare ≤ self.new.spare) }
+        ensures spare { self.old.spare ≤ self.new.spare }
+        ensures room { self.new.spare + used ≤ self.new.room }
+        ensures few { self.new.room < 2 ^ 32 }
+    {
+        if spare <= self.spare {
+            return Ok(());
+        }
+        self.widen(used + spare)?;
+        while self.spare() < spare {
+            self.add()?;
+        }
         Ok(())
     }
 

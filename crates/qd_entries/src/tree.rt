@@ -1,11 +1,12 @@
 //! A tree of entries, balanced by how many entries each side has.
-ghost use Rattle.std.specs.Prelude.{◌≡◌, ◌+◌, ◌*◌, ◌^◌, ◌<◌, ◌≤◌, [], ◌∷◌, ◌++◌, length, slice_get};
+ghost use Rattle.std.specs.Prelude.{◌≡◌, ◌+◌, ◌*◌, ◌^◌, ◌<◌, ◌≤◌, ◌↔◌, [], ◌∷◌, ◌++◌, length, slice_get, IsTrue};
 ghost use Rattle.qd_entries.specs.Nodes.{entries_of, entries_of_node, IsSized};
 ghost use Rattle.qd_entries.specs.Entries.{Falls, cells_at, entry_at_or_below, put_entry, without_index};
 ghost use Rattle.qd_entries.specs.Nodes.{TakesFirst};
 
+use crate::Entry;
 use crate::stock::Stock;
-use crate::{Cells, Entry};
+use qd_scheme::Cells;
 use std::marker::Model;
 use std::mem;
 
@@ -88,6 +89,12 @@ impl Tree {
         }
     }
 
+    pub fn is_empty(&self) -> bool
+        ensures { IsTrue result ↔ (self.now ≡ []) }
+    {
+        matches!(self.link, Link::Leaf)
+    }
+
     /// The node on top, with the trees below it.
     pub fn into_link(self) -> Link
         ensures entries { entries_of result ≡ self }
@@ -158,6 +165,7 @@ impl Tree {
         requires few { length self.old < 2 ^ 32 }
         requires spare { 0 < stock.old.spare }
         ensures entries { Falls self.old → self.new ≡ put_entry entry.now self.old }
+        ensures grows { length self.new ≤ length self.old + 1 }
         ensures stock { stock.new.spare + length self.new ≡ stock.old.spare + length self.old }
         ensures room { stock.new.room ≡ stock.old.room }
     {
@@ -210,6 +218,7 @@ impl Tree {
         requires few { length self.old < 2 ^ 33 }
         requires room { stock.old.spare + length self.old ≤ stock.old.room }
         ensures entries { Falls self.old → self.new ≡ without_index index self.old }
+        ensures shrinks { length self.new ≤ length self.old }
         ensures stock { stock.new.spare + length self.new ≡ stock.old.spare + length self.old }
         ensures room { stock.new.room ≡ stock.old.room }
     {

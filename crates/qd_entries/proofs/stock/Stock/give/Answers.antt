@@ -1,4 +1,4 @@
-use Rattle.std.proofs.Common.{◌≡◌, ◌<◌, ap, arith, length}
+use Rattle.std.proofs.Common.{◌<◌, ap, arith, length}
 use Rattle.qd_entries.specs.Stocked.{Stocked}
 use Rattle.qd_entries.specs.declared.tree.Node.{Node}
 use Rattle.std.specs.Prelude.{vec_len, vec_capacity}

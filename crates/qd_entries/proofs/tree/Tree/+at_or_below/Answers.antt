@@ -1,4 +1,4 @@
-use Rattle.std.proofs.Common.{◌≡◌, sym, ap, ◌∙◌, arith}
+use Rattle.std.proofs.Common.{sym, ap, ◌∙◌}
 use Rattle.qd_entries.specs.Nodes.{entries_of, entries_of_node}
 use Rattle.qd_entries.proofs.Forks.{at_or_below-after, at_or_below-before, at_or_below-middle}
 use Rattle.qd_entries.proofs.tree.Tree.+at_or_below.Goals as goal

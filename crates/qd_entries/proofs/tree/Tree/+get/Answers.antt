@@ -1,6 +1,5 @@
-use Rattle.std.proofs.Common.{◌≡◌, sym, ap, ◌∙◌, arith}
+use Rattle.std.proofs.Common.{sym, ap, ◌∙◌, arith}
 use Rattle.qd_entries.specs.Nodes.{entries_of, entries_of_node}
-use Rattle.qd_entries.specs.Entries.{Falls}
 use Rattle.qd_entries.proofs.Forks.{get-after, get-middle, get-before}
 use Rattle.qd_entries.proofs.tree.Tree.+get.Goals as goal
 

@@ -1,0 +1,6 @@
+pub mod Bits
+pub mod Shown
+pub mod Following
+pub mod Commits
+pub mod Laws
+pub mod Listening
