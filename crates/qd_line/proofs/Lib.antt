@@ -1,0 +1,4 @@
+pub mod Feeds
+pub mod LineLaws
+pub mod Pasts
+pub mod Texts

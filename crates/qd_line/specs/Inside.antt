@@ -1,0 +1,13 @@
+-- Where the bytes of a cutter of lines stand.
+use Rattle.std.specs.Prelude.{ℕ, ◌≡◌, ◌+◌, ◌≤◌, true, take, drop, vec_len}
+use Rattle.qd_line.specs.Lines.{is_one_line}
+use Rattle.qd_line.specs.declared.cutter.LineCutter.TheInside.{Inside}
+
+-- the bytes from the start on are left, the first ones of them that were searched have no line feed, and the text
+-- stands among the bytes
+pub record IsSound (c : Inside) : Type 0 where
+  pub start : c.start ≤ vec_len c.bytes
+  pub searched : c.start + c.searched ≤ vec_len c.bytes
+  pub most : c.searched ≤ 4097
+  pub one : is_one_line (take c.searched (drop c.start c.bytes.items)) ≡ true
+  pub text : c.text_start + c.text_len ≤ vec_len c.bytes

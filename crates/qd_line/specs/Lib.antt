@@ -1,0 +1,4 @@
+pub mod Cutter
+pub mod Held
+pub mod Inside
+pub mod Lines
