@@ -5,6 +5,8 @@
 
 mod buffer;
 mod split;
+#[cfg(test)]
+mod tests;
 
 pub use buffer::Buffer;
 pub use split::split_by_stripe;

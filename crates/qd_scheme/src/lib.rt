@@ -17,6 +17,8 @@ mod numbers;
 mod scheme;
 mod stripe;
 mod sym;
+#[cfg(test)]
+mod tests;
 
 pub use cells::Cells;
 pub use defs::{FieldDef, FieldKind, Fields, RecordDef};
