@@ -11,7 +11,7 @@ mod commits;
 mod flags;
 mod listener;
 
-pub use commits::{Commits, Floor, Ingest};
+pub use commits::{Commits, Floor, Ingest, begins_snapshot, is_removal, is_tx_pending};
 pub use flags::Flags;
 pub use listener::{Listener, Shown};
 use std::alloc::AllocError;
