@@ -17,9 +17,9 @@ use Rattle.qd_decimal.specs.Texts.{fraction_text, point_text, magnitude_text, de
 use Rattle.qd_decimal.proofs.Shapes.{decimal_at, accepted, minus_of, start_is, append_none}
 use Rattle.qd_decimal.proofs.Values.{fit_ok}
 use Rattle.qd_decimal.proofs.Formed.{Splits}
-use Rattle.qd_decimal.proofs.Exactly.{fine_end, fit_is, dec_fine}
+use Rattle.qd_decimal.proofs.Exactly.{fine_end, fit_is, dec_fine, read_is}
 
-number_append : (a b : List ℕ) → number_of (a ++ b) ≡ number_of a * 10 ^ length b + number_of b
+pub number_append : (a b : List ℕ) → number_of (a ++ b) ≡ number_of a * 10 ^ length b + number_of b
 number_append [] b = omega arith
 number_append (d ∷ a) b =
     let l : length (a ++ b) ≡ length a + length b = length-append a b in
@@ -54,6 +54,9 @@ decimal_text = decimal_by_steps IsText
       some = omega (arith, length-append ds ((48 + n % 10) ∷ []));
     })
 
+spelled_some : (parts : Parts) → AreDecimal parts → 0 < length (spelled parts)
+spelled_some parts a = omega (arith, a.some, length-append (sign parts.negative ++ parts.whole) (behind_point parts.fraction), length-append (sign parts.negative) parts.whole)
+
 split_of : (parts : Parts) → AreDecimal parts → Splits (spelled parts) (length (sign parts.negative ++ parts.whole)) parts
 split_of parts a = record {
   has = record { decimal = a; spells = refl };
@@ -73,26 +76,28 @@ split_of parts a = record {
         ap (λ n. drop n (x ++ 46 ∷ ds)) m ∙ drop-append-add x (46 ∷ ds) 1
 
 -- A text of the grammar that is fine and fits is read as its number.
+-- what the parts of a text that is read as a number have
+pub read_parts : (scale : ℕ) (parts : Parts) → AreDecimal parts → (value : ℤ) → dec_of scale (spelled parts) ≡ Ok value → IsFine scale parts × (value ≡ signed parts.negative (scaled scale parts))
+read_parts scale parts a value e = read_is scale (spelled parts) (length (sign parts.negative ++ parts.whole)) parts (split_of parts a) (spelled_some parts a) (accepted parts a) value e
+
 pub complete : (scale : ℕ) (parts : Parts) → AreDecimal parts → IsFine scale parts → scaled scale parts ≤ reach parts.negative → dec_of scale (spelled parts) ≡ Ok (signed parts.negative (scaled scale parts))
 complete scale parts a f r =
-    let w : ℕ = length (sign parts.negative ++ parts.whole) in
-    let l : 0 < length (spelled parts) = omega (arith, a.some, length-append (sign parts.negative ++ parts.whole) (behind_point parts.fraction), length-append (sign parts.negative) parts.whole) in
-    dec_fine scale (spelled parts) _ l (accepted parts a) (fine_end scale (spelled parts) _ parts (split_of parts a) f)
+    dec_fine scale (spelled parts) _ (spelled_some parts a) (accepted parts a) (fine_end scale (spelled parts) _ parts (split_of parts a) f)
     ∙ fit_is scale (spelled parts) _ parts (split_of parts a)
     ∙ fit_ok parts.negative (scaled scale parts) r
 
-record IsFraction (places rest : ℕ) (ds : List ℕ) : Type 0 where
+pub record IsFraction (places rest : ℕ) (ds : List ℕ) : Type 0 where
   pub digits : AreDigits ds
-  short : length ds ≤ places
-  number : number_of ds * 10 ^ (places - length ds) ≡ rest
+  pub short : length ds ≤ places
+  pub number : number_of ds * 10 ^ (places - length ds) ≡ rest
 
 quotient_small : (f p : ℕ) → 0 < p → f < 10 * p → f / p < 10
 quotient_small f p h k = grind arith
 
-more : (q l k p r n : ℕ) → l * k ≡ p → n * k ≡ r → (q * l + n) * k ≡ p * q + r
+pub more : (q l k p r n : ℕ) → l * k ≡ p → n * k ≡ r → (q * l + n) * k ≡ p * q + r
 more q l k p r n e g = let a : (q * l + n) * k ≡ q * (l * k) + n * k = omega arith in a ∙ ap (λ x. q * x + n * k) e ∙ ap (λ x. q * p + x) g ∙ omega arith
 
-whole_again : (f p : ℕ) → 0 < p → p * (f / p) + f % p ≡ f
+pub whole_again : (f p : ℕ) → 0 < p → p * (f / p) + f % p ≡ f
 whole_again f p h = omega arith
 
 cons_fraction : (places rest : ℕ) → 0 < 10 ^ places → rest / 10 ^ places < 10 → (ds : List ℕ) → IsFraction places (rest % 10 ^ places) ds → IsFraction (suc places) rest ((48 + rest / 10 ^ places) ∷ ds)
@@ -107,7 +112,7 @@ cons_fraction places rest p q ds t =
       number = rw (k, c) (more (rest / 10 ^ places) (10 ^ length ds) (10 ^ (places - length ds)) (10 ^ places) (rest % 10 ^ places) (number_of ds) e t.number ∙ whole_again rest (10 ^ places) p);
     }
 
-fraction_is : (places rest : ℕ) → rest < 10 ^ places → IsFraction places rest (fraction_text places rest)
+pub fraction_is : (places rest : ℕ) → rest < 10 ^ places → IsFraction places rest (fraction_text places rest)
 fraction_is zero rest h = record { digits = tt; short = omega arith; number = omega arith }
 fraction_is (suc places) rest h =
     let p : 0 < 10 ^ places = one-le-pow places 10 (omega arith) in
@@ -119,13 +124,13 @@ fraction_is (suc places) rest h =
     ] in
     go (rest == 0) refl
 
-abbrev kept_fraction : ℕ → ℕ → Option (List ℕ)
+abbrev pub kept_fraction : ℕ → ℕ → Option (List ℕ)
 kept_fraction scale rest = cond (rest == 0) None (Some (fraction_text scale rest))
 
-abbrev canonical_parts : ℕ → ℤ → Parts
+abbrev pub canonical_parts : ℕ → ℤ → Parts
 canonical_parts scale value = record { negative = is_negative value; whole = decimal (distance value / 10 ^ scale); fraction = kept_fraction scale (distance value % 10 ^ scale) }
 
-fraction_kept : (scale rest : ℕ) → rest < 10 ^ scale → IsFraction scale rest (fraction_digits (kept_fraction scale rest))
+pub fraction_kept : (scale rest : ℕ) → rest < 10 ^ scale → IsFraction scale rest (fraction_digits (kept_fraction scale rest))
 fraction_kept scale rest h =
     let go : (b : Bool) → (rest == 0) ≡ b → IsFraction scale rest (fraction_digits (cond b None (Some (fraction_text scale rest)))) = elim [
       | true ↦ λ e. let z : rest ≡ 0 = grind (arith, nat_tests) in record { digits = tt; short = omega arith; number = omega arith }
@@ -140,13 +145,13 @@ point_is scale rest = go (rest == 0)
     go true = refl
     go false = refl
 
-text_is : (scale : ℕ) (value : ℤ) → dec_text scale value ≡ spelled (canonical_parts scale value)
+pub text_is : (scale : ℕ) (value : ℤ) → dec_text scale value ≡ spelled (canonical_parts scale value)
 unfolding dec_text magnitude_text
 text_is scale value =
     sym (append_assoc (sign (is_negative value)) (decimal (distance value / 10 ^ scale)) (point_text scale (distance value % 10 ^ scale)))
     ∙ ap (λ (t : List ℕ). (sign (is_negative value) ++ decimal (distance value / 10 ^ scale)) ++ t) (point_is scale (distance value % 10 ^ scale))
 
-are_fraction : (f : Option (List ℕ)) → AreDigits (fraction_digits f) → AreFraction f
+pub are_fraction : (f : Option (List ℕ)) → AreDigits (fraction_digits f) → AreFraction f
 are_fraction None h = tt
 are_fraction (Some ds) h = h
 
@@ -154,12 +159,15 @@ pub signed_is : (value : ℤ) → signed (is_negative value) (distance value) �
 signed_is (pos n) = refl
 signed_is (negsuc n) = refl
 
-scaled_sum : (scale : ℕ) (whole digits : List ℕ) → length digits ≤ scale → number_of (whole ++ take scale digits) * 10 ^ (scale - length (take scale digits)) ≡ (number_of whole * 10 ^ length digits + number_of digits) * 10 ^ (scale - length digits)
+pub scaled_sum : (scale : ℕ) (whole digits : List ℕ) → length digits ≤ scale → number_of (whole ++ take scale digits) * 10 ^ (scale - length (take scale digits)) ≡ (number_of whole * 10 ^ length digits + number_of digits) * 10 ^ (scale - length digits)
 scaled_sum scale whole digits h =
     let e : take scale digits ≡ digits = take_all scale digits h in
     rw e (ap (λ n. n * 10 ^ (scale - length digits)) (number_append whole digits))
 
-reach_small : (b : Bool) → reach b < 2 ^ 64
+pub quotient_fits : (n q : ℕ) → n < 2 ^ 64 → n / q < 2 ^ 64
+quotient_fits n q h = let l : n / q ≤ n = grind arith in omega arith
+
+pub reach_small : (b : Bool) → reach b < 2 ^ 64
 reach_small true = omega arith
 reach_small false = omega arith
 
@@ -167,7 +175,7 @@ reach_small false = omega arith
 pub again : (scale : ℕ) (value : ℤ) → distance value ≤ reach (is_negative value) → dec_of scale (dec_text scale value) ≡ Ok value
 again scale value h =
     let p : 0 < 10 ^ scale = one-le-pow scale 10 (omega arith) in
-    let small : distance value / 10 ^ scale < 2 ^ 64 = below (distance value) (10 ^ scale) (omega (arith, reach_small (is_negative value))) in
+    let small : distance value / 10 ^ scale < 2 ^ 64 = quotient_fits (distance value) (10 ^ scale) (omega (arith, reach_small (is_negative value))) in
     let w : IsText (distance value / 10 ^ scale) (decimal (distance value / 10 ^ scale)) = decimal_text (distance value / 10 ^ scale) small in
     let f : IsFraction scale (distance value % 10 ^ scale) (fraction_digits (kept_fraction scale (distance value % 10 ^ scale))) = fraction_kept scale (distance value % 10 ^ scale) (omega arith) in
     let a : AreDecimal (canonical_parts scale value) = record { some = w.some; whole = w.digits; fraction = are_fraction (kept_fraction scale (distance value % 10 ^ scale)) f.digits } in
@@ -183,8 +191,5 @@ again scale value h =
     ∙ ap (λ n. Ok (signed (is_negative value) n)) sum
     ∙ ap (λ (z : ℤ). Ok z) (signed_is value)
   where
-    below : (n q : ℕ) → n < 2 ^ 64 → n / q < 2 ^ 64
-    below n q h = let l : n / q ≤ n = grind arith in omega arith
-
     powers : (n l : ℕ) → l ≤ n → 10 ^ l * 10 ^ (n - l) ≡ 10 ^ n
     powers n l h = let e : l + (n - l) ≡ n = omega arith in sym (pow-add 10 l (n - l)) ∙ ap (λ k. 10 ^ k) e

@@ -85,6 +85,12 @@ dec_fine scale text w h o z =
     let u : (zeros_end text (kept_of scale text w) == length text) ≡ true = grind (arith, nat_tests) in
     dec_good scale text w h o ∙ rw u refl
 
+not_both : (r : Result ℤ DecFault) (value : ℤ) (fault : DecFault) → r ≡ Ok value → r ≡ Err fault → ⊥
+not_both r value fault h k = cc
+
+same_ok : (r : Result ℤ DecFault) (a b : ℤ) → r ≡ Ok a → r ≡ Ok b → a ≡ b
+same_ok r a b h k = cc
+
 module _ (scale : ℕ) (text : List ℕ) (w : ℕ) (parts : Parts) (split : Splits text w parts) where
   past_is : past scale parts ≡ drop (kept_of scale text w) text
   past_is = ap (λ (t : List ℕ). drop scale t) split.fraction ∙ sym (drop_kept text (fraction_start text w) scale)
@@ -137,6 +143,16 @@ module _ (scale : ℕ) (text : List ℕ) (w : ℕ) (parts : Parts) (split : Spli
       | inr l ↦ subst (λ (r : Result ℤ DecFault). ReadsDecimal scale text r) (sym (dec_fine scale text w h o z ∙ fit_is ∙ fit_ok parts.negative (scaled scale parts) l)) (parts, split.has, fine z, l, refl)
     ]
     | inr z ↦ subst (λ (r : Result ℤ DecFault). ReadsDecimal scale text r) (sym (dec_coarse scale text w h o z)) (parts, split.has, coarse z)
+  ]
+
+  -- what an accepted text that is read as a number has
+  pub read_is : 0 < length text → decimal_at text (start_of text) ≡ Ok w → (value : ℤ) → dec_of scale text ≡ Ok value → IsFine scale parts × (value ≡ signed parts.negative (scaled scale parts))
+  read_is h o value e = elim (eq_or_not (zeros_end text (kept_of scale text w)) (length text)) [
+    | inl z ↦ elim (lt_or_le (reach parts.negative) (scaled scale parts)) [
+      | inl l ↦ let f : dec_of scale text ≡ Err TooLarge = dec_fine scale text w h o z ∙ fit_is ∙ fit_large parts.negative (scaled scale parts) l in absurd (not_both (dec_of scale text) value TooLarge e f)
+      | inr l ↦ let f : dec_of scale text ≡ Ok (signed parts.negative (scaled scale parts)) = dec_fine scale text w h o z ∙ fit_is ∙ fit_ok parts.negative (scaled scale parts) l in (fine z, same_ok (dec_of scale text) value (signed parts.negative (scaled scale parts)) e f)
+    ]
+    | inr z ↦ absurd (not_both (dec_of scale text) value (TooFine (zeros_end text (kept_of scale text w) + 1)) e (dec_coarse scale text w h o z))
   ]
 
 pub reads : (scale : ℕ) (text : List ℕ) → ReadsDecimal scale text (dec_of scale text)

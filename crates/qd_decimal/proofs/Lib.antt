@@ -7,6 +7,7 @@ pub mod Fractions
 pub mod OnePass
 pub mod Places
 pub mod Shapes
+pub mod Shortest
 pub mod Values
 pub mod Wholes
 pub mod WholesAgain

@@ -1,4 +1,6 @@
 ghost use Rattle.std.specs.Prelude.{◌≡◌, ◌≤◌, ◌<◌, ◌^◌, ℕ, Ok, decimal};
+ghost use Rattle.qd_decimal.specs.Canonical.{IsCanonical};
+ghost use Rattle.qd_decimal.specs.Grammar.{Parts, spelled};
 ghost use Rattle.qd_decimal.specs.Numbers.{reach};
 ghost use Rattle.qd_decimal.specs.Reading.{dec_of, int_of, count_of};
 ghost use Rattle.qd_decimal.specs.Texts.{dec_text, distance, is_negative};
@@ -22,4 +24,14 @@ pub fn count_again()
 /// Two different numbers have different texts at a scale.
 pub fn different_texts()
     ensures { (scale : ℕ) (a b : ℤ) → distance a ≤ reach (is_negative a) → distance b ≤ reach (is_negative b) → dec_text scale a ≡ dec_text scale b → a ≡ b }
+{}
+
+/// What [`crate::write_dec`] appends is canonical.
+pub fn canonical()
+    ensures { (scale : ℕ) (value : ℤ) → distance value ≤ reach (is_negative value) → (parts : Parts) × (dec_text scale value ≡ spelled parts) × IsCanonical value parts }
+{}
+
+/// A canonical text that is read as a number is the one that [`crate::write_dec`] appends.
+pub fn one_canonical()
+    ensures { (scale : ℕ) (value : ℤ) (parts : Parts) → distance value ≤ reach (is_negative value) → IsCanonical value parts → dec_of scale (spelled parts) ≡ Ok value → spelled parts ≡ dec_text scale value }
 {}

@@ -14,10 +14,12 @@ mod fault;
 mod laws;
 mod line;
 mod reading;
+#[cfg(test)]
+mod tests;
 mod writing;
 
 pub use fault::DecFault;
-pub use laws::{count_again, dec_again, different_texts, int_again};
+pub use laws::{canonical, count_again, dec_again, different_texts, int_again, one_canonical};
 pub use line::Line;
 pub use reading::{read_count, read_dec, read_int};
 pub use writing::{write_count, write_dec};
