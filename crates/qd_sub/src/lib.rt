@@ -7,6 +7,8 @@
 
 mod op;
 mod sub;
+mod table;
 
 pub use op::{Op, Reply};
 pub use sub::{Sub, Want};
+pub use table::Names;
