@@ -12,7 +12,7 @@ Fills (Got n) most old new was now before after =
     (bytes : List ℕ) × (new ≡ old ++ bytes) × (length bytes ≡ n) × (1 ≤ n) × (n ≤ most) × Took was now bytes × (after ≡ before)
 Fills End most old new was now before after = (new ≡ old) × Took was now [] × IsSpent now × (after ≡ before)
 Fills Failed most old new was now before after = (new ≡ old) × Took was now [] × Rose before after × (before ≤ after)
-Fills NoMemory most old new was now before after = (new ≡ old) × ((bytes : List ℕ) × Took was now bytes) × (after ≡ before)
+Fills NoMemory most old new was now before after = (new ≡ old) × ((bytes : List ℕ) × Took was now bytes × (length bytes ≤ most)) × (after ≡ before)
 
 -- a text is put behind what is held back, a first part of the whole is written, and the rest is held back; or a write failed
 abbrev pub Prints : Bool → List ℕ → List ℕ → List ℕ → Option (List ℕ) → Option (List ℕ) → ℕ → ℕ → Type 0

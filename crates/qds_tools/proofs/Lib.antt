@@ -1,0 +1,9 @@
+pub mod Appends
+pub mod FeedLaws
+pub mod LineLaws
+pub mod LineOrder
+pub mod KeyCounts
+pub mod StepLaws
+pub mod WorkLaws
+pub mod EndLaws
+pub mod DecidingLaws

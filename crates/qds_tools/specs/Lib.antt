@@ -1,0 +1,15 @@
+pub mod Lines
+pub mod Grammar
+pub mod Spelling
+pub mod Groups
+pub mod Unmixed
+pub mod Counts
+pub mod Scripts
+pub mod Small
+pub mod Texts
+pub mod Engines
+pub mod Steps
+pub mod Ends
+pub mod Deciding
+pub mod Statuses
+pub mod Work
