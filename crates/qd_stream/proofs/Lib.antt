@@ -2,4 +2,5 @@ pub mod FreshLaws
 pub mod LossLaws
 pub mod WaitingLaws
 pub mod OwedLaws
+pub mod OutboxLaws
 pub mod Rows

@@ -158,7 +158,7 @@ module _ (cap a : ℕ) where
   -- what is owed tells whether anything of a key is
   pub is_owed-owes : (k : Key) (now : StreamMoment) → is_owed cap a k now ≡ owes (owed_at cap a now) k
   unfolding is_owed owed_at
-  is_owed-owes k now = ap (λ b. list_any (is_of k) (waiting cap a now) || b) (sym (is_lost-losses (gone cap a now).unreported k))
+  is_owed-owes k now = ap (λ b. b || list_any (is_of k) (waiting cap a now)) (sym (is_lost-losses (gone cap a now).unreported k))
 
   -- an item is given
   abbrev pub give : StreamItem → Act StreamItem StreamItem

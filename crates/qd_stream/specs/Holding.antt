@@ -11,10 +11,10 @@ use Rattle.qd_sub.specs.Holding.{watchers, newest_pair}
 use Rattle.qd_stream.specs.Items.{key_of_item}
 use Rattle.qd_stream.specs.Waiting.{StreamMoment, gone, waiting}
 
--- an item of k waits for a, or a loss of k is unreported
+-- a loss of k is unreported, or an item of k waits for a
 unfoldable pub is_owed : ℕ → ℕ → Key → StreamMoment → Bool
 is_owed cap a k now =
-    list_any (λ i. key_eq k (key_of_item i)) (waiting cap a now) || list_any (λ i. key_eq k (key_of_item i)) (gone cap a now).unreported
+    list_any (λ i. key_eq k (key_of_item i)) (gone cap a now).unreported || list_any (λ i. key_eq k (key_of_item i)) (waiting cap a now)
 
 -- a pair is held while it is subscribed or anything of it is owed
 unfoldable pub holds_pair : ℕ → ℕ → Key → StreamMoment → Bool

@@ -6,3 +6,4 @@ pub mod Holding
 pub mod Legal
 pub mod Asking
 pub mod Owed
+pub mod Outboxes

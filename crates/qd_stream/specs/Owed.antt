@@ -77,4 +77,4 @@ after_first most o = record { items = drop (most - length o.lost) o.items; lost 
 
 -- something of k is owed
 abbrev pub owes : Owed → Key → Bool
-owes o k = list_any (λ i. key_eq k (key_of_item i)) o.items || is_lost o.lost k
+owes o k = is_lost o.lost k || list_any (λ i. key_eq k (key_of_item i)) o.items

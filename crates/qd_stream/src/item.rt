@@ -10,6 +10,20 @@ pub enum StreamItem {
     Lost(Key, u64),
 }
 
+impl StreamItem {
+    ghost use Rattle.qd_stream.specs.Items.{weight};
+
+    /// For how many records it stands.
+    pub fn weight(&self) -> u64
+        ensures { result ≡ weight self.now }
+    {
+        match self {
+            StreamItem::Rec(_) => 1,
+            StreamItem::Lost(_, count) => *count,
+        }
+    }
+}
+
 impl Keyed for StreamItem {
     ghost use Rattle.qd_stream.specs.Items.{key_of_item};
 

@@ -6,5 +6,6 @@
 #![tactic(auto)]
 
 mod item;
+mod outbox;
 
 pub use item::StreamItem;
