@@ -1,0 +1,7 @@
+pub mod Cells
+pub mod Cuts
+pub mod Descriptions
+pub mod Joins
+pub mod Judged
+pub mod Lengths
+pub mod Near

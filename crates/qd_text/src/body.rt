@@ -1,0 +1,192 @@
+//! Body lines: what a line says under each message.
+
+ghost use Rattle.std.specs.Prelude.{◌≡◌, ◌≤◌, ◌<◌, ◌+◌, length, IfOk, IsTrue, All, Some, slice_get};
+ghost use Rattle.qd_scheme.specs.Faults.{has_scale};
+ghost use Rattle.qd_grammar.specs.Fields.{cells_at, hist_at, record_at};
+ghost use Rattle.qd_grammar.specs.Body.{kinds_of, kinds_at, key_at, record_line, event_line, sub_line, hist_sub_line, lost_line, message_line, body_line};
+ghost use Rattle.qd_text.specs.Cursor.{left, seen};
+
+use crate::cursor::{fault_at, line_end, part_end};
+use crate::fields::{cell_at, count_at, flags_at, loss_at, symbol_at};
+use qd_grammar::{Fault, Item, Message, State, Why};
+use qd_scheme::{Cells, Event, FieldDef, Key, Record, RecordDef, Scheme};
+use qd_sub::Sub;
+
+/// The largest index and limit.
+const MOST: u64 = 0x7fff_ffff_ffff_ffff;
+
+/// A record of the scheme.
+#[tactic(auto, using(crate::proofs::Cells::def_there, crate::proofs::Cells::few_fields, crate::proofs::Cells::scaled_fields))]
+pub fn def_of(scheme: &Scheme, rec: u32) -> &RecordDef
+    requires { rec < length scheme.now }
+    ensures at { slice_get scheme.now rec ≡ Some result.now }
+    ensures few { length result.now.fields ≤ 16 }
+    ensures scaled { All (λ field. IsTrue (has_scale field.kind)) result.now.fields }
+{
+    match scheme.def(rec) {
+        Some(def) => def,
+        None => unreachable!(),
+    }
+}
+
+/// One cell for each field, in order.
+#[tactic(auto, using(crate::proofs::Cells::cells_step, crate::proofs::Cells::cells_fail, crate::proofs::Cells::kinds_left, crate::proofs::Cells::scaled_field))]
+fn cells_at(line: &[u8], at: usize, fields: &[FieldDef]) -> Result<(Cells, usize), Fault>
+    requires few { length fields.now ≤ 16 }
+    requires scaled { All (λ field. IsTrue (has_scale field.kind)) fields.now }
+    requires short { length line.now ≤ 4096 }
+    requires within { at ≤ length line.now + 1 }
+    ensures read { seen line.now (λ c. c) result ≡ cells_at (kinds_of fields.now) (length line.now + 1) (left line.now at) }
+    ensures order { IfOk result (λ read. read.1 ≤ length line.now + 1) }
+{
+    let mut cells = Cells::new();
+    let mut next = at;
+    for field in fields {
+        let (cell, after) = cell_at(line, next, field.kind)?;
+        cells.push(cell);
+        next = after;
+    }
+    Ok((cells, next))
+}
+
+/// Whether a record is one of the history.
+#[tactic(auto, unfolding(qd_grammar::specs::Fields::hist_at))]
+fn hist_at(scheme: &Scheme, rec: u32) -> bool
+    requires { rec < length scheme.now }
+    ensures { result ≡ hist_at scheme.now rec }
+{
+    def_of(scheme, rec).hist
+}
+
+/// The number of a record whose name the part is.
+#[tactic(auto, unfolding(qd_grammar::specs::Fields::record_at))]
+fn record_at(line: &[u8], scheme: &Scheme, hist: bool) -> Result<(u32, usize), Fault>
+    requires short { length line.now ≤ 4096 }
+    ensures read { seen line.now (λ n. n) result ≡ record_at hist scheme.now (length line.now + 1) (left line.now 0) }
+    ensures order { IfOk result (λ read. read.1 ≤ length line.now + 1) }
+    ensures found { IfOk result (λ read. read.0 < length scheme.now) }
+{
+    let to = part_end(line, 0)?;
+    match scheme.find(&line[..to]) {
+        None => Err(fault_at(0, Why::UnknownRecord)),
+        Some(rec) => {
+            if hist && !hist_at(scheme, rec) {
+                return Err(fault_at(0, Why::Form));
+            }
+            Ok((rec, to + 1))
+        }
+    }
+}
+
+/// The key that a body line begins with.
+#[tactic(auto, unfolding(qd_grammar::specs::Body::key_at))]
+fn key_at(line: &[u8], scheme: &Scheme, hist: bool) -> Result<(Key, usize), Fault>
+    requires short { length line.now ≤ 4096 }
+    ensures read { seen line.now (λ k. k) result ≡ key_at hist scheme.now (length line.now + 1) (left line.now 0) }
+    ensures order { IfOk result (λ read. read.1 ≤ length line.now + 1) }
+    ensures found { IfOk result (λ read. read.0.rec < length scheme.now) }
+{
+    let (rec, next) = record_at(line, scheme, hist)?;
+    let (sym, next) = symbol_at(line, next)?;
+    Ok((Key { rec, sym }, next))
+}
+
+/// The cells of a record's fields.
+#[tactic(auto, using(crate::proofs::Cells::kinds_there))]
+fn cells_of(line: &[u8], at: usize, scheme: &Scheme, rec: u32) -> Result<(Cells, usize), Fault>
+    requires known { rec < length scheme.now }
+    requires short { length line.now ≤ 4096 }
+    requires within { at ≤ length line.now + 1 }
+    ensures read { seen line.now (λ c. c) result ≡ cells_at (kinds_at (slice_get scheme.now rec)) (length line.now + 1) (left line.now at) }
+    ensures order { IfOk result (λ read. read.1 ≤ length line.now + 1) }
+{
+    cells_at(line, at, def_of(scheme, rec).fields.as_slice())
+}
+
+#[tactic(auto, unfolding(qd_grammar::specs::Body::record_line))]
+fn record_line(line: &[u8], scheme: &Scheme) -> Result<Item, Fault>
+    requires { length line.now ≤ 4096 }
+    ensures { result ≡ record_line scheme.now (length line.now + 1) (left line.now 0) }
+{
+    let (key, next) = key_at(line, scheme, false)?;
+    let (cells, next) = cells_of(line, next, scheme, key.rec)?;
+    line_end(line, next)?;
+    Ok(Item::Rec(Record { key, cells }))
+}
+
+#[tactic(auto, unfolding(qd_grammar::specs::Body::event_line))]
+fn event_line(line: &[u8], scheme: &Scheme) -> Result<Item, Fault>
+    requires { length line.now ≤ 4096 }
+    ensures { result ≡ event_line scheme.now (length line.now + 1) (left line.now 0) }
+{
+    let (key, next) = key_at(line, scheme, true)?;
+    let (index, next) = count_at(line, next, MOST)?;
+    let (flags, next) = flags_at(line, next)?;
+    let (cells, next) = cells_of(line, next, scheme, key.rec)?;
+    line_end(line, next)?;
+    Ok(Item::Ev(Event {
+        key,
+        index,
+        flags,
+        cells,
+    }))
+}
+
+#[tactic(auto, unfolding(qd_grammar::specs::Body::sub_line))]
+fn sub_line(line: &[u8], scheme: &Scheme, hist: bool) -> Result<Item, Fault>
+    requires { length line.now ≤ 4096 }
+    ensures { result ≡ sub_line hist scheme.now (length line.now + 1) (left line.now 0) }
+{
+    let (key, next) = key_at(line, scheme, hist)?;
+    line_end(line, next)?;
+    Ok(Item::Sub(key))
+}
+
+#[tactic(auto, unfolding(qd_grammar::specs::Body::hist_sub_line))]
+fn hist_sub_line(line: &[u8], scheme: &Scheme) -> Result<Item, Fault>
+    requires { length line.now ≤ 4096 }
+    ensures { result ≡ hist_sub_line scheme.now (length line.now + 1) (left line.now 0) }
+{
+    let (key, next) = key_at(line, scheme, true)?;
+    let (limit, next) = count_at(line, next, MOST)?;
+    line_end(line, next)?;
+    Ok(Item::HistSub(Sub { key, limit }))
+}
+
+#[tactic(auto, unfolding(qd_grammar::specs::Body::lost_line))]
+fn lost_line(line: &[u8], scheme: &Scheme) -> Result<Item, Fault>
+    requires { length line.now ≤ 4096 }
+    ensures { result ≡ lost_line scheme.now (length line.now + 1) (left line.now 0) }
+{
+    let (key, next) = key_at(line, scheme, false)?;
+    let (count, next) = loss_at(line, next)?;
+    line_end(line, next)?;
+    Ok(Item::Lost(key, count))
+}
+
+/// A line under a message.
+fn message_line(line: &[u8], scheme: &Scheme, message: Message) -> Result<Item, Fault>
+    requires { length line.now ≤ 4096 }
+    ensures { result ≡ message_line scheme.now message (length line.now + 1) (left line.now 0) }
+{
+    match message {
+        Message::TickerData | Message::StreamData => record_line(line, scheme),
+        Message::HistoryData => event_line(line, scheme),
+        Message::StreamLost => lost_line(line, scheme),
+        Message::TickerAdd | Message::StreamAdd => sub_line(line, scheme, false),
+        Message::TickerRemove | Message::StreamRemove => sub_line(line, scheme, false),
+        Message::HistoryAdd => hist_sub_line(line, scheme),
+        Message::HistoryRemove => sub_line(line, scheme, true),
+    }
+}
+
+/// A body line, which belongs to the current message.
+pub fn body_line(line: &[u8], scheme: &Scheme, state: &State) -> Result<Item, Fault>
+    requires { length line.now ≤ 4096 }
+    ensures { result ≡ body_line state.now scheme.now (length line.now + 1) (left line.now 0) }
+{
+    match state.message {
+        None => Err(fault_at(0, Why::Order)),
+        Some(message) => message_line(line, scheme, message),
+    }
+}
