@@ -2,7 +2,7 @@
 //!
 //! A [`Reader`] tells what each line says: it is skipped, it spells one [`Item`], or it has one fault with its place and
 //! reason. [`write_item`] appends the one canonical line of an item. What is written is read back as the same item
-//! ([`canonical_line`]). A [`SchemeReader`] reads the records of a scheme file.
+//! ([`canonical_line`]).
 #![tactic(auto)]
 
 mod body;
