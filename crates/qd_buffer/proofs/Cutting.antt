@@ -1,6 +1,7 @@
 -- Counting and filling the parts of a cut, item by item. `part x` is the part that x belongs to.
 use Rattle.std.proofs.Common.{◌≡◌, ◌≢◌, ◌⊎◌, inl, inr, ℕ, zero, suc, ◌+◌, ◌≤◌, ◌<◌, Bool, true, false, cond, nat_eq, List, [], ◌∷◌, ◌++◌, length, take, drop, map, filter, get_or, set, Option, Some, None, refl, sym, ap, ◌∙◌, subst, arith, eq-eqb, append-nil, le_of_eq, eqb-true, not-suc-le-zero, le_of_suc-le-suc, length-append, length-set, length-take, take-append-drop}
-use Rattle.std.specs.Prelude.{slice_get, option_map}
+use Rattle.std.proofs.Math.Nat.{mod-one}
+use Rattle.std.specs.Prelude.{sum, slice_get, option_map}
 use Rattle.std.proofs.lemmas.List.Elements.{filter_more, filter-append}
 use Rattle.std.proofs.lemmas.List.Sums.{length-filter, count_by-le-length}
 use Rattle.std.proofs.lemmas.List.{get_or-set_same, get_or-set_other, get_or-take, length-map}
@@ -9,7 +10,7 @@ use Rattle.std.proofs.lemmas.Bool.{cases_eq}
 use Rattle.qd_scheme.specs.declared.key.Key.{Key}
 use Rattle.qd_scheme.specs.Stripes.{stripe_of, IsStripeCount}
 use Rattle.qd_buffer.specs.Filled.{Filled, with_items}
-use Rattle.qd_buffer.specs.Splitting.{of_stripe, IsFilling}
+use Rattle.qd_buffer.specs.Splitting.{of_stripe, AreStripes, IsFilling}
 
 -- there are at most 16 stripes
 pub IsStripeCount-le : (n : ℕ) → IsStripeCount n → n ≤ 16
@@ -147,3 +148,15 @@ IsFilling-start {T} key_of n items counts parts few so e =
     ] in
     go (slice_get (take n counts) i) refl (sym (slice_get-map empty (take n counts) i) ∙ ap (λ ps. slice_get ps i) (sym e) ∙ f) in
     record { count = ap length e ∙ length-map (take n counts) empty ∙ omega (arith, length-take n counts, few); each = each }
+
+all_pass : {T : Type 0} (p : T → Bool) → ((x : T) → p x ≡ true) → (items : List T) → filter p items ≡ items
+all_pass p h [] = refl
+all_pass p h (x ∷ xs) = rw (h x) (ap (λ ys. x ∷ ys) (all_pass p h xs))
+
+-- one part with all items
+one_part : {T : Type 0} (key_of : T → Key) (items : List T) (room i : ℕ) (p : Filled T) → slice_get (record { items = items; room = room } ∷ []) i ≡ Some p → p.items ≡ of_stripe key_of 1 i items
+one_part key_of items room zero p f = sym (ap (λ q. q.items) (some_same (record { items = items; room = room }) p f)) ∙ sym (all_pass (λ item. nat_eq (stripe_of (key_of item) 1) 0) (λ x. eq-eqb (stripe_of (key_of x) 1) 0 (mod-one ((key_of x).rec + sum (key_of x).sym))) items)
+one_part key_of items room (suc i) p f = cc
+
+pub AreStripes-one : {T : Type 0} (key_of : T → Key) (items : List T) (parts : List (Filled T)) (room : ℕ) → parts ≡ record { items = items; room = room } ∷ [] → AreStripes key_of 1 items parts
+AreStripes-one key_of items parts room e = record { count = ap length e; each = λ i p f. one_part key_of items room i p (sym (ap (λ ps. slice_get ps i) e) ∙ f) }

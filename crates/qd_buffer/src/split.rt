@@ -20,6 +20,9 @@ pub fn split_by_stripe<T: Keyed>(
     ensures parts { OnOk result (AreStripes T.key_of n items.now parts.new.items) }
     ensures none { OnErr result (parts.new.items ≡ []) }
 {
+    if n == 1 {
+        return make_one_part(alloc, items, parts);
+    }
     let counts = counts_of(items, n);
     match make_parts(alloc, &counts[..usize::from(n)], parts) {
         Ok(()) => {
@@ -31,6 +34,21 @@ pub fn split_by_stripe<T: Keyed>(
             Err(error)
         }
     }
+}
+
+/// All items in one part, which is what one stripe has.
+fn make_one_part<T: Keyed>(
+    alloc: Global,
+    items: &[T],
+    parts: &mut Vec<Buffer<T>>,
+) -> Result<(), NoMemory>
+    requires few { length items.now ≤ 4096 }
+    requires empty { parts.old.items ≡ [] }
+    ensures parts { OnOk result (AreStripes T.key_of 1 items.now parts.new.items) }
+    ensures none { OnErr result (parts.new.items ≡ []) }
+{
+    parts.push(Buffer::of_slice(alloc, items)?)?;
+    Ok(())
 }
 
 /// How many items each stripe has.
