@@ -1,11 +1,11 @@
 -- Runs of digits, byte by byte.
-use Rattle.std.proofs.Common.{◌≡◌, ℕ, zero, suc, ◌+◌, ◌-◌, ◌<◌, ◌≤◌, min, Bool, true, false, cond, List, [], ◌∷◌, ◌++◌, length, get_or, drop, take, slice_range, refl, sym, ◌∙◌, ap, arith, length-drop, add-one, inl, inr}
-use Rattle.std.specs.Prelude.{◌==◌, ◌⊎◌, Option, nat_lt, Result, Ok, Err}
+use Rattle.std.proofs.Common.{◌≡◌, ℕ, zero, suc, ◌+◌, ◌-◌, ◌*◌, ◌^◌, ◌<◌, ◌≤◌, min, Bool, true, false, cond, List, [], ◌∷◌, ◌++◌, length, get_or, drop, take, slice_range, refl, sym, ◌∙◌, ap, arith, length-drop, add-one, inl, inr}
+use Rattle.std.specs.Prelude.{◌==◌, ◌⊎◌, Option, Some, nat_lt, Result, Ok, Err}
 use Rattle.std.specs.List.{prefix_len}
 use Rattle.std.proofs.lemmas.Bool.Decides.{nat_tests}
 use Rattle.std.proofs.lemmas.List.{drop_more, drop-drop, get_or-drop}
 use Rattle.std.proofs.lemmas.List.Sums.{prefix_len-le-length}
-use Rattle.std.proofs.Math.Seq.{take-suc}
+use Rattle.std.proofs.Math.Seq.{take-suc, take-add}
 use Rattle.qd_decimal.specs.Grammar.{is_digit}
 use Rattle.qd_decimal.specs.Numbers.{with_digit, with_digits}
 use Rattle.qd_decimal.specs.Reading.{digits_end, zeros_end, rest_at, ◌>>=◌}
@@ -26,6 +26,31 @@ digits_more number text from at h k =
   where
     piece : (n from : ℕ) (text : List ℕ) → from + n < length text → take (suc n) (drop from text) ≡ take n (drop from text) ++ get_or text (from + n) 0 ∷ []
     piece n from text h = take-suc (drop from text) n 0 (omega (arith, length-drop from text)) ∙ ap (λ d. take n (drop from text) ++ d ∷ []) (get_or-drop from text n 0)
+
+-- digits in two pieces
+pub digits_joined : (number middle : Option ℕ) (text : List ℕ) (from at to : ℕ) → from ≤ at → at ≤ to → with_digits number (slice_range text from at) ≡ middle → with_digits middle (slice_range text at to) ≡ with_digits number (slice_range text from to)
+digits_joined number middle text from at to h k e =
+    let n : from + (at - from) ≡ at = omega arith in
+    let m : (at - from) + (to - at) ≡ to - from = omega arith in
+    let d : drop (at - from) (drop from text) ≡ drop at text = drop-drop (at - from) from text ∙ ap (λ i. drop i text) n in
+    let s : slice_range text from to ≡ slice_range text from at ++ slice_range text at to =
+    ap (λ i. take i (drop from text)) (sym m) ∙ take-add (at - from) (to - at) (drop from text) ∙ ap (λ (t : List ℕ). slice_range text from at ++ take (to - at) t) d in
+    ap (λ v. with_digits v (slice_range text at to)) (sym e)
+    ∙ sym (with_digits-append number (slice_range text from at) (slice_range text at to))
+    ∙ ap (λ (t : List ℕ). with_digits number t) (sym s)
+
+-- a number with room for any digit takes one more
+pub digit_fits : (value digit : ℕ) → value ≤ 1844674407370955160 → is_digit digit ≡ true → with_digit (Some value) digit ≡ Some (value * 10 + (digit - 48))
+digit_fits value digit h k =
+    let d : digit - 48 ≤ 9 = digit_most digit k in
+    let t : nat_lt (value * 10 + (digit - 48)) (2 ^ 64) ≡ true = fit (value * 10 + (digit - 48)) (omega arith) in
+    rw t refl
+  where
+    digit_most : (d : ℕ) → is_digit d ≡ true → d - 48 ≤ 9
+    digit_most d h = grind (arith, nat_tests)
+
+    fit : (n : ℕ) → n < 2 ^ 64 → nat_lt n (2 ^ 64) ≡ true
+    fit n h = grind (arith, nat_tests)
 
 -- behind some of the first that pass, the others follow
 prefix_len-drop : (p : ℕ → Bool) (k : ℕ) (xs : List ℕ) → k ≤ prefix_len p xs → k + prefix_len p (drop k xs) ≡ prefix_len p xs

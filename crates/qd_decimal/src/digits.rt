@@ -1,4 +1,4 @@
-ghost use Rattle.std.specs.Prelude.{◌≡◌, ◌+◌, ◌-◌, ◌*◌, ◌^◌, ◌<◌, ◌≤◌, length, min, slice_range};
+ghost use Rattle.std.specs.Prelude.{◌≡◌, ◌+◌, ◌-◌, ◌*◌, ◌^◌, ◌<◌, ◌≤◌, length, min, slice_range, Some};
 ghost use Rattle.qd_decimal.specs.Grammar.{is_digit};
 ghost use Rattle.qd_decimal.specs.Numbers.{with_digit, with_digits, times};
 ghost use Rattle.qd_decimal.specs.Reading.{digits_end, zeros_end};
@@ -23,8 +23,40 @@ fn with_digit(number: Option<u64>, digit: u8) -> Option<u64>
     ten.checked_add(u64::from(digit.saturating_sub(b'0')))
 }
 
-/// The digits from `from` on, up to `to` at most, behind those of `number`.
-pub(crate) fn run_of(number: Option<u64>, text: &[u8], from: usize, to: usize) -> Run
+/// Where a run of digits stops, at its end or where the next digit might not fit, and the number so far.
+#[derive(Clone, Copy)]
+struct Start {
+    end: usize,
+    number: u64,
+}
+
+/// A number up to this takes any further digit in 64 bits.
+const ROOM: u64 = 1_844_674_407_370_955_160;
+
+/// The first digits from `from` on, up to `to` at most, behind those of `number`.
+#[tactic(auto, unfolding(crate::specs::Reading::digits_end))]
+fn start_of_run(number: u64, text: &[u8], from: usize, to: usize) -> Start
+    requires order { from ≤ to }
+    requires within { to ≤ length text.now }
+    ensures number { with_digits (Some number) (slice_range text.now from result.end) ≡ Some result.number }
+    ensures forward { from ≤ result.end }
+    ensures within { result.end ≤ to }
+    ensures digits { result.end ≤ digits_end text.now from }
+{
+    let mut at = from;
+    let mut value = number;
+    while at < to && value <= ROOM && is_digit(text[at]) {
+        value = value * 10 + u64::from(text[at] - b'0');
+        at += 1;
+    }
+    Start {
+        end: at,
+        number: value,
+    }
+}
+
+/// The digits from `from` on, up to `to` at most, behind those of `number`, which may not fit.
+fn rest_of_run(number: Option<u64>, text: &[u8], from: usize, to: usize) -> Run
     requires order { from ≤ to }
     requires within { to ≤ length text.now }
     ensures end { result.end ≡ min (digits_end text.now from) to }
@@ -39,6 +71,22 @@ pub(crate) fn run_of(number: Option<u64>, text: &[u8], from: usize, to: usize) -
     Run {
         end: at,
         number: value,
+    }
+}
+
+/// The digits from `from` on, up to `to` at most, behind those of `number`.
+pub(crate) fn run_of(number: Option<u64>, text: &[u8], from: usize, to: usize) -> Run
+    requires order { from ≤ to }
+    requires within { to ≤ length text.now }
+    ensures end { result.end ≡ min (digits_end text.now from) to }
+    ensures number { result.number ≡ with_digits number (slice_range text.now from result.end) }
+{
+    match number {
+        Some(n) => {
+            let start = start_of_run(n, text, from, to);
+            rest_of_run(Some(start.number), text, start.end, to)
+        }
+        None => rest_of_run(None, text, from, to),
     }
 }
 

@@ -1,13 +1,14 @@
 use Rattle.std.proofs.Common.{◌≡◌, ◌+◌, ◌-◌, ◌≤◌, drop, slice_range}
+use Rattle.std.specs.Prelude.{Some}
 use Rattle.std.specs.List.{prefix_len}
 use Rattle.qd_decimal.specs.Grammar.{is_digit}
 use Rattle.qd_decimal.specs.Numbers.{with_digits}
-use Rattle.qd_decimal.proofs.digits.run_of.Given as goal
+use Rattle.qd_decimal.proofs.digits.start_of_run.Given as goal
 
 abbrev pub invariant-loop-at : goal.invariant-loop-at
 invariant-loop-at l = record {
   same : l.at + prefix_len is_digit (drop l.at l.text) ≡ l.from + prefix_len is_digit (drop l.from l.text);
-  number : l.value ≡ with_digits l.fn.number (slice_range l.text l.from l.at);
+  number : with_digits (Some l.fn.number) (slice_range l.text l.from l.at) ≡ Some l.value;
   forward : l.from ≤ l.at;
   within : l.at ≤ l.to;
 }

@@ -1,0 +1,16 @@
+use Rattle.std.proofs.Common.{◌≡◌, ◌+◌, ◌-◌, ◌≤◌, drop, slice_range}
+use Rattle.std.specs.List.{prefix_len}
+use Rattle.qd_decimal.specs.Grammar.{is_digit}
+use Rattle.qd_decimal.specs.Numbers.{with_digits}
+use Rattle.qd_decimal.proofs.digits.rest_of_run.Given as goal
+
+abbrev pub invariant-loop-at : goal.invariant-loop-at
+invariant-loop-at l = record {
+  same : l.at + prefix_len is_digit (drop l.at l.text) ≡ l.from + prefix_len is_digit (drop l.from l.text);
+  number : l.value ≡ with_digits l.fn.number (slice_range l.text l.from l.at);
+  forward : l.from ≤ l.at;
+  within : l.at ≤ l.to;
+}
+
+abbrev pub decreases-loop-at : goal.decreases-loop-at
+decreases-loop-at l = l.to - l.at
