@@ -7,3 +7,6 @@ pub mod StepLaws
 pub mod WorkLaws
 pub mod EndLaws
 pub mod DecidingLaws
+pub mod SpellingLaws
+pub mod SaidLaws
+pub mod UnmixedLaws

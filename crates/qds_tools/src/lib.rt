@@ -7,6 +7,7 @@
 #![tactic(auto)]
 
 mod engine;
+mod laws;
 mod plain;
 mod reply;
 mod run_end;
@@ -15,6 +16,7 @@ mod status;
 mod text;
 
 pub use engine::{Engine, Turn};
+pub use laws::{group_law, line_law, quote_law};
 pub use plain::plain_main;
 pub use run_end::{BadLine, Limit, RunEnd, Why};
 pub use running::run;
