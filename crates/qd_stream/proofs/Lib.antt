@@ -3,4 +3,5 @@ pub mod LossLaws
 pub mod WaitingLaws
 pub mod OwedLaws
 pub mod OutboxLaws
+pub mod KeyedLaws
 pub mod Rows

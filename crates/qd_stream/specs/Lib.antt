@@ -7,3 +7,4 @@ pub mod Legal
 pub mod Asking
 pub mod Owed
 pub mod Outboxes
+pub mod Keyed
