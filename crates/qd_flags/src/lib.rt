@@ -5,11 +5,13 @@
 //! of one key and tells the map of the last commit place.
 #![tactic(auto)]
 
-ghost use Rattle.qd_flags.specs.Laws.{SegmentShows, CutTwice};
+ghost use Rattle.qd_flags.specs.Laws.{SegmentShows, CutTwice, UpdateKeepsFloor, UpdateChangesByItsEvents};
 
 mod commits;
 mod flags;
 mod listener;
+#[cfg(test)]
+mod tests;
 
 pub use commits::{Commits, Floor, Ingest, begins_snapshot, is_removal, is_tx_pending};
 pub use flags::Flags;
@@ -27,4 +29,10 @@ pub fn segment_law()
 /// A map cut at f and then at a g that is no less is the map cut at g.
 pub fn cut_law()
     ensures { CutTwice }
+{}
+
+/// A commit place without a BEGIN after the place before it keeps that one's floor and snip, and changes its map by its events alone.
+pub fn update_law()
+    ensures floor { UpdateKeepsFloor }
+    ensures map { UpdateChangesByItsEvents }
 {}
