@@ -11,4 +11,4 @@ mod table;
 
 pub use op::{Op, Reply};
 pub use sub::{Sub, Want};
-pub use table::Names;
+pub use table::{Cell, Hold, Holds, Names};

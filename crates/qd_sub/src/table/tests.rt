@@ -9,29 +9,6 @@ fn key(bytes: &[u8]) -> Result<Key, Fail> {
     Ok(Key { rec: 0, sym })
 }
 
-#[test]
-fn a_slot_that_was_freed_is_given_again(rt: HostRuntime) -> Result<(), Fail> {
-    let (a, b, c) = (key(b"A")?, key(b"B")?, key(b"C")?);
-    let mut names = Names::new(rt.alloc())?;
-    names.reserve(2)?;
-    assert_eq!(rt; names.slots(), 2);
-    let first = name_new(&mut names, &a).ok_or("no room")?;
-    let second = name_new(&mut names, &b).ok_or("no room")?;
-    assert!(rt; first != second);
-    assert_eq!(rt; names.slot_of(&a), Some(first));
-    assert_eq!(rt; names.slot_of(&b), Some(second));
-    assert_eq!(rt; names.name_at(first), Some(a));
-    assert_eq!(rt; names.name_at(2), None);
-    free_named(&mut names, &a);
-    assert_eq!(rt; names.slot_of(&a), None);
-    assert_eq!(rt; names.name_at(first), None);
-    names.reserve(1)?;
-    assert_eq!(rt; names.slots(), 2, "the freed slot serves again");
-    assert_eq!(rt; name_new(&mut names, &c), Some(first));
-    assert_eq!(rt; names.slot_of(&b), Some(second));
-    Ok(())
-}
-
 /// Names a key that has no slot, while there is room.
 fn name_new(names: &mut Names, key: &Key) -> Option<u32> {
     if names.room() == 0 || names.slot_of(key).is_some() {
@@ -45,4 +22,27 @@ fn free_named(names: &mut Names, key: &Key) {
     if let Some(slot) = names.slot_of(key) {
         names.free(slot, key);
     }
+}
+
+#[test]
+fn a_slot_that_was_freed_is_given_again(rt: HostRuntime) -> Result<(), Fail> {
+    let mut names = Names::new(rt.alloc())?;
+    names.reserve(1)?;
+    let first = name_new(&mut names, &key(b"A")?);
+    free_named(&mut names, &key(b"A")?);
+    names.reserve(1)?;
+    assert_eq!(rt; name_new(&mut names, &key(b"B")?), first);
+    assert_eq!(rt; names.slots(), 1);
+    Ok(())
+}
+
+#[test]
+fn keys_have_slots_of_their_own(rt: HostRuntime) -> Result<(), Fail> {
+    let mut names = Names::new(rt.alloc())?;
+    names.reserve(2)?;
+    let first = name_new(&mut names, &key(b"A")?);
+    let second = name_new(&mut names, &key(b"B")?);
+    assert!(rt; first.is_some() && second.is_some() && first != second);
+    assert_eq!(rt; names.slot_of(&key(b"B")?), second);
+    Ok(())
 }
