@@ -14,4 +14,6 @@ mod stripe;
 pub use stripe::TickerStripe;
 
 #[cfg(test)]
+mod gate_tests;
+#[cfg(test)]
 mod tests;
