@@ -5,3 +5,4 @@ pub mod Joins
 pub mod Judged
 pub mod Lengths
 pub mod Near
+pub mod SchemeFields

@@ -1,3 +1,4 @@
 pub mod Cursor
 pub mod Near
 pub mod Reading
+pub mod SchemeLines

@@ -101,19 +101,19 @@ fn note(state: &mut State, item: &Item)
     }
 }
 
-fn is_skipped(line: &[u8]) -> bool
+pub fn is_skipped(line: &[u8]) -> bool
     ensures { result ≡ is_skipped line.now }
 {
     line.is_empty() || line[0] == b'#'
 }
 
-fn is_control(line: &[u8]) -> bool
+pub fn is_control(line: &[u8]) -> bool
     ensures { result ≡ is_control line.now }
 {
     line.len() > 1 && line[0] == b'=' && line[1] == b'='
 }
 
-fn is_description(line: &[u8]) -> bool
+pub fn is_description(line: &[u8]) -> bool
     ensures { result ≡ is_description line.now }
 {
     !line.is_empty() && line[0] == b'='
