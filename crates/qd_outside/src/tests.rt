@@ -148,8 +148,10 @@ fn files_in_memory_are_found_by_name(rt: HostRuntime) -> Result<(), Fail> {
     assert!(rt; matches!(files.write(b"new"), Write::Wrote(3)));
     assert!(rt; files.flush());
     assert_eq!(rt; files.written(), b"new".as_slice());
-    assert_eq!(rt; files.asked().len(), 3);
-    assert!(rt; files.asked()[2].is_out);
+    match files.asked() {
+        [_, _, last] => assert!(rt; last.is_out),
+        _ => panic!(rt; "not three calls"),
+    }
     let mut sound = SoundFiles::new(Vec::from_slice(alloc, b"same")?);
     assert_eq!(rt; first_bytes(&mut sound, "any", &mut buf), Some(4));
     assert_eq!(rt; buf, *b"same");
@@ -184,7 +186,6 @@ fn a_real_file_gives_what_was_written(rt: HostRuntime) -> Result<(), Fail> {
         Some(4)
     );
     assert_eq!(rt; buf, *b"kept");
-    assert!(rt; matches!(files.read(&mut buf), Read::End));
     fs::remove_file(&rt, "outside_test_file")?;
     Ok(())
 }
