@@ -26,6 +26,20 @@ pub record Told : Type 0 where
   pub read_faults : ℕ
   pub write_faults : ℕ
 
+-- what files tell before the first call: nothing was opened, and no fault was counted
+abbrev pub told_at_first : Option (List ℕ → Option (List ℕ)) → Option (List ℕ) → Option (List ℕ) → Option (List Opening) → Told
+told_at_first holds left written asked = record {
+  holds = holds;
+  left = left;
+  written = written;
+  asked = asked;
+  flushed = true;
+  is_reading = false;
+  is_writing = false;
+  read_faults = 0;
+  write_faults = 0;
+}
+
 -- the name has these bytes, and all of them are left
 abbrev pub LeftOf : Option (List ℕ) → Option (List ℕ) → Type 0
 LeftOf None left = ⊥

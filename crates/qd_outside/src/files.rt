@@ -1,4 +1,5 @@
-ghost use Rattle.std.specs.Prelude.{◌≡◌, ◌≤◌, ◌+◌, ◌-◌, ◌++◌, length, take, drop, min};
+ghost use Rattle.std.specs.Prelude.{◌≡◌, ◌≤◌, ◌+◌, ◌-◌, ◌++◌, Some, None, [], length, take, drop, min};
+ghost use Rattle.qd_outside.specs.Opening.{told_at_first};
 
 use crate::sink::Write;
 use crate::source::Read;
@@ -45,7 +46,10 @@ pub struct SoundFiles {
 }
 
 impl SoundFiles {
-    pub fn new(text: Vec<u8>) -> SoundFiles {
+    pub fn new(text: Vec<u8>) -> SoundFiles
+        ensures { ⟦<SoundFiles as Files>⟧.told result
+            ≡ told_at_first (Some (λ name. Some text.items)) (Some []) None None }
+    {
         let at = text.len();
         SoundFiles {
             text,

@@ -64,7 +64,8 @@ impl InBuffer {
     /// Reads at most so many bytes, once.
     pub fn fill<S: Source>(&mut self, source: &mut S, most: usize) -> Fill
         requires { 0 < most }
-        ensures { Fills result most self.old self.new (S.left source.old) (S.left source.new) (S.faults source.old) (S.faults source.new) }
+        ensures kept { S.kept source.new ≡ S.kept source.old }
+        ensures fills { Fills result most self.old self.new (S.left source.old) (S.left source.new) (S.faults source.old) (S.faults source.new) }
     {
         self.settle();
         match read_some(source, &mut self.piece, most) {
@@ -95,6 +96,7 @@ impl InBuffer {
 fn read_some<S: Source>(source: &mut S, piece: &mut [u8], most: usize) -> Read
     requires some { 0 < most }
     requires room { 0 < length piece.old }
+    ensures kept { S.kept source.new ≡ S.kept source.old }
     ensures bytes { Took (S.left source.old) (S.left source.new) (bytes_got result piece.new) }
     ensures tells { Tells result (take most piece.new) (S.left source.new) (S.faults source.old) (S.faults source.new) }
 {

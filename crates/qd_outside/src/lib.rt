@@ -8,6 +8,7 @@
 //! ([`Reading`], [`Writing`], [`RealFiles`]). [`InBuffer`] and [`OutBuffer`] move bytes in large pieces.
 #![tactic(auto)]
 
+mod file_source;
 mod files;
 mod in_buffer;
 mod list_files;
@@ -19,6 +20,7 @@ mod real_files;
 mod sink;
 mod source;
 
+pub use file_source::FileSource;
 pub use files::{Files, SoundFiles};
 pub use in_buffer::{Fill, InBuffer};
 pub use list_files::{Asked, HeldFile, ListFiles};

@@ -1,5 +1,5 @@
 ghost use Rattle.std.specs.Prelude.{◌≡◌, ◌++◌, ◌∷◌, [], Some, IfSome, if◌then◌else◌, map};
-ghost use Rattle.qd_outside.specs.Opening.{held_in, opening_at, opening_of};
+ghost use Rattle.qd_outside.specs.Opening.{held_in, opening_at, opening_of, told_at_first};
 
 use crate::files::{Files, copy_some};
 use crate::plan::Plan;
@@ -39,7 +39,10 @@ pub struct ListFiles {
 }
 
 impl ListFiles {
-    pub fn new(alloc: Global, files: Vec<HeldFile>, plan: Vec<bool>) -> ListFiles {
+    pub fn new(alloc: Global, files: Vec<HeldFile>, plan: Vec<bool>) -> ListFiles
+        ensures { ⟦<ListFiles as Files>⟧.told result
+            ≡ told_at_first (Some (held_in files.items)) (Some []) (Some []) (Some []) }
+    {
         ListFiles {
             alloc,
             files,
@@ -56,11 +59,15 @@ impl ListFiles {
         }
     }
 
-    pub fn written(&self) -> &[u8] {
+    pub fn written(&self) -> &[u8]
+        ensures { (⟦<ListFiles as Files>⟧.told self.now).written ≡ Some result.now }
+    {
         &self.written
     }
 
-    pub fn asked(&self) -> &[Asked] {
+    pub fn asked(&self) -> &[Asked]
+        ensures { (⟦<ListFiles as Files>⟧.told self.now).asked ≡ Some (map opening_of result.now) }
+    {
         &self.asked
     }
 }

@@ -1,3 +1,5 @@
+ghost use Rattle.std.specs.Prelude.{◌≡◌, Some, None, [], true, false};
+
 use crate::files::copy_some;
 use crate::plan::Plan;
 use crate::sink::{Sink, Write};
@@ -14,7 +16,10 @@ pub struct ListSource {
 }
 
 impl ListSource {
-    pub fn new(bytes: Vec<u8>, plan: Vec<bool>) -> ListSource {
+    pub fn new(bytes: Vec<u8>, plan: Vec<bool>) -> ListSource
+        ensures left { ⟦<ListSource as Source>⟧.left result ≡ Some bytes.items }
+        ensures faults { ⟦<ListSource as Source>⟧.faults result ≡ 0 }
+    {
         ListSource {
             bytes,
             at: 0,
@@ -30,6 +35,10 @@ impl Source for ListSource {
     ghost left = { λ s. Some (drop s.at s.bytes.items) };
 
     ghost faults = { λ s. s.faults };
+
+    ghost Kept = { Unit {0} };
+
+    ghost kept = { λ _. tt };
 
     fn read(&mut self, buf: &mut [u8]) -> Read {
         if self.plan.is_next_failing() {
@@ -53,7 +62,10 @@ pub struct SoundSource {
 }
 
 impl SoundSource {
-    pub fn new(bytes: Vec<u8>) -> SoundSource {
+    pub fn new(bytes: Vec<u8>) -> SoundSource
+        ensures left { ⟦<SoundSource as Source>⟧.left result ≡ Some bytes.items }
+        ensures faults { ⟦<SoundSource as Source>⟧.faults result ≡ 0 }
+    {
         SoundSource { bytes, at: 0 }
     }
 }
@@ -64,6 +76,10 @@ impl Source for SoundSource {
     ghost left = { λ s. Some (drop s.at s.bytes.items) };
 
     ghost faults = { λ s. 0 };
+
+    ghost Kept = { Unit {0} };
+
+    ghost kept = { λ _. tt };
 
     fn read(&mut self, buf: &mut [u8]) -> Read {
         if self.at >= self.bytes.len() {
@@ -85,7 +101,11 @@ pub struct ListSink {
 }
 
 impl ListSink {
-    pub fn new(alloc: Global, plan: Vec<bool>) -> ListSink {
+    pub fn new(alloc: Global, plan: Vec<bool>) -> ListSink
+        ensures written { ⟦<ListSink as Sink>⟧.written result ≡ Some [] }
+        ensures flushed { ⟦<ListSink as Sink>⟧.flushed result ≡ true }
+        ensures faults { ⟦<ListSink as Sink>⟧.faults result ≡ 0 }
+    {
         ListSink {
             written: Vec::new(alloc),
             flushed: true,
@@ -94,11 +114,15 @@ impl ListSink {
         }
     }
 
-    pub fn written(&self) -> &[u8] {
+    pub fn written(&self) -> &[u8]
+        ensures { ⟦<ListSink as Sink>⟧.written self.now ≡ Some result.now }
+    {
         &self.written
     }
 
-    pub fn is_flushed(&self) -> bool {
+    pub fn is_flushed(&self) -> bool
+        ensures { result ≡ ⟦<ListSink as Sink>⟧.flushed self.now }
+    {
         self.flushed
     }
 }
@@ -138,7 +162,11 @@ pub struct SoundSink {
 }
 
 impl SoundSink {
-    pub fn new() -> SoundSink {
+    pub fn new() -> SoundSink
+        ensures written { ⟦<SoundSink as Sink>⟧.written result ≡ None }
+        ensures flushed { ⟦<SoundSink as Sink>⟧.flushed result ≡ true }
+        ensures faults { ⟦<SoundSink as Sink>⟧.faults result ≡ 0 }
+    {
         SoundSink { flushed: true }
     }
 }

@@ -1,3 +1,5 @@
+ghost use Rattle.std.specs.Prelude.{◌≡◌, ◌+◌, ◌-◌, ◌^◌, false, min, slice_get, unwrap_or};
+
 /// Which calls are to fail: those whose number has `true`. Calls past the end of the list do not fail.
 #[derive(Drop)]
 pub struct Plan {
@@ -6,12 +8,17 @@ pub struct Plan {
 }
 
 impl Plan {
-    pub fn new(fails: Vec<bool>) -> Plan {
+    pub fn new(fails: Vec<bool>) -> Plan
+        ensures { result ≡ record { fails = fails; calls = 0 } }
+    {
         Plan { fails, calls: 0 }
     }
 
     /// Counts a call, and tells whether it is to fail.
-    pub fn is_next_failing(&mut self) -> bool {
+    pub fn is_next_failing(&mut self) -> bool
+        ensures planned { result ≡ unwrap_or (slice_get self.old.fails.items self.old.calls) false }
+        ensures counted { self.new ≡ record self.old { calls = min (self.old.calls + 1) (2 ^ 64 - 1) } }
+    {
         let call = self.calls;
         self.calls = call.saturating_add(1);
         match self.fails.get(call) {

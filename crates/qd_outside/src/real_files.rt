@@ -1,3 +1,6 @@
+ghost use Rattle.std.specs.Prelude.{◌≡◌, None};
+ghost use Rattle.qd_outside.specs.Opening.{told_at_first};
+
 use crate::files::Files;
 use crate::sink::Write;
 use crate::source::Read;
@@ -16,7 +19,9 @@ pub struct RealFiles<'a, R: rt::Files> {
 }
 
 impl<'a, R: rt::Files> RealFiles<'a, R> {
-    pub fn new(rt: &'a R) -> RealFiles<'a, R> {
+    pub fn new(rt: &'a R) -> RealFiles<'a, R>
+        ensures { ⟦<RealFiles<'a, R> as Files>⟧.told result ≡ told_at_first None None None None }
+    {
         RealFiles {
             rt,
             input: None,
@@ -96,5 +101,76 @@ impl<'a, R: rt::Files> Files for RealFiles<'a, R> {
         }
         self.write_faults = self.write_faults.saturating_add(1);
         false
+    }
+}
+
+#[cfg(test)]
+mod tests {
+    use super::RealFiles;
+    use crate::{Files, Read, Write};
+    use std::fs;
+    use std::process::Abort;
+    use std::test::Fail;
+
+    #[test]
+    fn what_cannot_be_opened_counts_as_a_fault(rt: HostRuntime) -> Result<(), Fail> {
+        let mut files = RealFiles::new(&rt);
+        for (place, name) in ["no_such_file", "no_such_directory/a", "", "a\0b"]
+            .iter()
+            .enumerate()
+        {
+            assert!(rt; !files.open_in(name));
+            assert_eq!(rt; files.read_faults, place as u64 + 1);
+        }
+        for (place, name) in [".", "no_such_directory/a", "", "a\0b"].iter().enumerate() {
+            assert!(rt; !files.open_out(name));
+            assert_eq!(rt; files.write_faults, place as u64 + 1);
+        }
+        assert_eq!(rt; files.read_faults, 4);
+        Ok(())
+    }
+
+    #[test]
+    fn a_directory_is_opened_and_cannot_be_read(rt: HostRuntime) -> Result<(), Fail> {
+        let mut files = RealFiles::new(&rt);
+        assert!(rt; files.open_in("."));
+        assert_eq!(rt; files.read_faults, 0);
+        assert!(rt; matches!(files.read(&mut [0; 8]), Read::Failed));
+        assert!(rt; matches!(files.read(&mut [0; 8]), Read::Failed));
+        assert_eq!(rt; files.read_faults, 2);
+        assert_eq!(rt; files.write_faults, 0);
+        Ok(())
+    }
+
+    #[test]
+    fn a_full_disk_takes_no_byte(rt: HostRuntime) -> Result<(), Fail> {
+        let mut files = RealFiles::new(&rt);
+        if fs::metadata(&rt, "/dev/full").is_err() {
+            return Ok(());
+        }
+        assert!(rt; files.open_out("/dev/full"));
+        assert!(rt; matches!(files.write(b"lost"), Write::Failed));
+        assert_eq!(rt; files.write_faults, 1);
+        assert!(rt; files.flushed);
+        assert_eq!(rt; files.read_faults, 0);
+        Ok(())
+    }
+
+    #[test]
+    fn a_failed_open_ends_the_file_before(rt: HostRuntime) -> Result<(), Fail> {
+        let mut files = RealFiles::new(&rt);
+        let name = "outside_kept_file";
+        assert!(rt; files.open_out(name));
+        assert!(rt; matches!(files.write(b"kept"), Write::Wrote(4)));
+        assert!(rt; files.flush());
+        assert!(rt; files.open_in(name));
+        assert!(rt; matches!(files.read(&mut [0; 3]), Read::Got(3)));
+        assert!(rt; files.open_in(name));
+        assert!(rt; matches!(files.read(&mut [0; 8]), Read::Got(4)));
+        assert!(rt; matches!(files.read(&mut [0; 8]), Read::End));
+        assert!(rt; !files.open_in("no_such_file"));
+        assert!(rt; files.input.is_none());
+        fs::remove_file(&rt, name)?;
+        Ok(())
     }
 }

@@ -1,6 +1,7 @@
 use crate::{
-    Files, Fill, HeldFile, InBuffer, ListFiles, ListSink, ListSource, OutBuffer, Read, Reading,
-    RealFiles, Sink, SoundFiles, SoundSink, SoundSource, Source, Write, Writing, write_all,
+    FileSource, Files, Fill, HeldFile, InBuffer, ListFiles, ListSink, ListSource, OutBuffer, Read,
+    Reading, RealFiles, Sink, SoundFiles, SoundSink, SoundSource, Source, Write, Writing,
+    write_all,
 };
 use std::alloc::{AllocError, Global};
 use std::fs;
@@ -155,6 +156,30 @@ fn files_in_memory_are_found_by_name(rt: HostRuntime) -> Result<(), Fail> {
     let mut sound = SoundFiles::new(Vec::from_slice(alloc, b"same")?);
     assert_eq!(rt; first_bytes(&mut sound, "any", &mut buf), Some(4));
     assert_eq!(rt; buf, *b"same");
+    Ok(())
+}
+
+#[test]
+fn a_file_that_is_open_is_a_source(rt: HostRuntime) -> Result<(), Fail> {
+    let alloc = rt.alloc();
+    let mut held = Vec::new(alloc);
+    held.push(HeldFile {
+        name: Vec::from_slice(alloc, b"a")?,
+        bytes: Vec::from_slice(alloc, b"seven b")?,
+    })?;
+    let plan = Vec::from_slice(alloc, &[false, false, false, false, false, false, true])?;
+    let mut files = ListFiles::new(alloc, held, plan);
+    if !files.open_in("a") {
+        panic!(rt; "not opened");
+    }
+    let mut source = FileSource::new(&mut files);
+    assert_eq!(rt;
+        read_to_end(alloc, &mut source)?.ok_or("failed")?.as_slice(),
+        b"seven b".as_slice()
+    );
+    assert!(rt; matches!(source.read(&mut [0; 2]), Read::End));
+    assert!(rt; matches!(source.read(&mut [0; 2]), Read::Failed));
+    assert_eq!(rt; files.asked().len(), 1);
     Ok(())
 }
 
