@@ -1,4 +1,4 @@
-ghost use Rattle.std.specs.Prelude.{◌≡◌, ◌+◌, ◌-◌, ◌*◌, ◌^◌, ◌<◌, ◌≤◌, length, min, slice_range, Some};
+ghost use Rattle.std.specs.Prelude.{◌≡◌, ◌+◌, ◌-◌, ◌*◌, ◌/◌, ◌%◌, ◌^◌, ◌<◌, ◌≤◌, length, min, slice_range, Some};
 ghost use Rattle.qd_decimal.specs.Grammar.{is_digit};
 ghost use Rattle.qd_decimal.specs.Numbers.{with_digit, with_digits, times};
 ghost use Rattle.qd_decimal.specs.Reading.{digits_end, zeros_end};
@@ -144,5 +144,59 @@ pub(crate) fn power_of_ten(exponent: u8) -> u64
         7 => 10_000_000,
         8 => 100_000_000,
         _ => 1_000_000_000,
+    }
+}
+
+/// A number cut before its last digits.
+#[derive(Clone, Copy)]
+pub(crate) struct Cut {
+    pub front: u64,
+    pub rest: u64,
+}
+
+/// Cuts a number before so many last digits. Each arm divides by a constant, for which the machine needs no division.
+pub(crate) fn cut_before(n: u64, places: u8) -> Cut
+    requires { places ≤ 9 }
+    ensures front { result.front ≡ n / 10 ^ places }
+    ensures rest { result.rest ≡ n % 10 ^ places }
+{
+    match places {
+        0 => Cut { front: n, rest: 0 },
+        1 => Cut {
+            front: n / 10,
+            rest: n % 10,
+        },
+        2 => Cut {
+            front: n / 100,
+            rest: n % 100,
+        },
+        3 => Cut {
+            front: n / 1_000,
+            rest: n % 1_000,
+        },
+        4 => Cut {
+            front: n / 10_000,
+            rest: n % 10_000,
+        },
+        5 => Cut {
+            front: n / 100_000,
+            rest: n % 100_000,
+        },
+        6 => Cut {
+            front: n / 1_000_000,
+            rest: n % 1_000_000,
+        },
+        7 => Cut {
+            front: n / 10_000_000,
+            rest: n % 10_000_000,
+        },
+        8 => Cut {
+            front: n / 100_000_000,
+            rest: n % 100_000_000,
+        },
+        _ => Cut {
+            front: n / 1_000_000_000,
+            rest: n % 1_000_000_000,
+        },
     }
 }

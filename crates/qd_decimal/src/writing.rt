@@ -2,7 +2,7 @@ ghost use Rattle.std.specs.Prelude.{◌≡◌, ◌+◌, ◌^◌, ◌<◌, ◌≤
 ghost use Rattle.qd_decimal.specs.Texts.{fraction_text, point_text, magnitude_text, dec_text};
 
 use crate::Line;
-use crate::digits::power_of_ten;
+use crate::digits::cut_before;
 use itoa::Buffer;
 
 /// Appends the canonical text of a count, unless there is too little room.
@@ -25,10 +25,9 @@ fn write_fraction(places: u8, part: u64, out: &mut Line) -> bool
     let mut rest = part;
     while left > 0 && rest != 0 {
         left -= 1;
-        let power = power_of_ten(left);
-        let digit = rest / power;
-        rest %= power;
-        if !out.push(b'0' + digit as u8) {
+        let cut = cut_before(rest, left);
+        rest = cut.rest;
+        if !out.push(b'0' + cut.front as u8) {
             return false;
         }
     }
@@ -70,15 +69,15 @@ fn put_point(places: u8, part: u64, out: &mut Line)
 }
 
 /// Appends the canonical text of a number's distance from 0, where there is room for any.
-#[tactic(auto, using(crate::proofs::Fractions::part_small, crate::proofs::Fractions::count_short), unfolding(crate::specs::Texts::magnitude_text))]
+#[tactic(auto, using(crate::proofs::Fractions::count_short), unfolding(crate::specs::Texts::magnitude_text))]
 fn write_magnitude(n: u64, scale: u8, out: &mut Line)
     requires scale { scale ≤ 9 }
     requires room { length out.old ≤ 4065 }
     ensures { out.new ≡ out.old ++ magnitude_text scale n }
 {
-    let power = power_of_ten(scale);
-    put_count(n / power, out);
-    put_point(scale, n % power, out);
+    let cut = cut_before(n, scale);
+    put_count(cut.front, out);
+    put_point(scale, cut.rest, out);
 }
 
 /// Appends the canonical text of a number, where there is room for any.

@@ -1,12 +1,11 @@
 -- The cells of a record, one by one, and the record of the scheme that they belong to.
-use Rattle.std.proofs.Common.{◌≡◌, ℕ, zero, suc, ◌+◌, ◌<◌, ◌≤◌, List, [], ◌∷◌, ◌++◌, length, map, get_or, drop, refl, sym, ◌∙◌, ap, subst, arith, append_assoc}
-use Rattle.std.specs.Prelude.{Result, Ok, Err, Option, Some, None, slice_get, IsTrue, All}
-use Rattle.std.specs.Option.{option_copied}
+use Rattle.std.proofs.Common.{◌≡◌, ℕ, zero, suc, ◌+◌, ◌<◌, ◌≤◌, List, [], ◌∷◌, ◌++◌, length, get_or, drop, refl, sym, ◌∙◌, ap, subst, arith, append_assoc}
+use Rattle.std.specs.Prelude.{Result, Ok, Err, Some, None, slice_get, IsTrue, All}
 use Rattle.std.proofs.lemmas.List.{drop_more}
 use Rattle.std.proofs.lemmas.Option.{slice_get-get_or}
 use lib.IntN.{ℤ}
 use Rattle.qd_scheme.specs.Faults.{has_scale}
-use Rattle.qd_scheme.specs.Schemes.{IsField, IsRecord, IsScheme}
+use Rattle.qd_scheme.specs.Schemes.{IsScheme}
 use Rattle.qd_scheme.specs.declared.defs.FieldKind.{FieldKind}
 use Rattle.qd_scheme.specs.declared.defs.FieldDef.{FieldDef}
 use Rattle.qd_scheme.specs.declared.defs.RecordDef.{RecordDef}
@@ -14,7 +13,6 @@ use Rattle.qd_grammar.specs.declared.fault.Fault.{Fault}
 use Rattle.qd_grammar.specs.Parts.{Part, ◌>>=◌}
 use Rattle.qd_grammar.specs.Fields.{cell_at, cells_at}
 use Rattle.qd_grammar.specs.Body.{kinds_of, kinds_at}
-use Rattle.qd_text.specs.Cursor.{left}
 
 -- what was read, with cells in front
 abbrev pub with_cells : List ℤ → Result (List ℤ × List Part) Fault → Result (List ℤ × List Part) Fault

@@ -1,13 +1,12 @@
 -- A line's parts, cut one by one.
-use Rattle.std.proofs.Common.{◌≡◌, ℕ, suc, ◌+◌, ◌-◌, ◌<◌, ◌≤◌, Bool, true, false, cond, nat_eq, List, [], ◌∷◌, ◌++◌, length, take, drop, refl, sym, ◌∙◌, ap, arith, add-one, length-drop}
-use Rattle.std.specs.Prelude.{not, ◌==◌, nat_le, slice_range, Result, Ok, Err}
+use Rattle.std.proofs.Common.{◌≡◌, ℕ, suc, ◌+◌, ◌-◌, ◌<◌, ◌≤◌, Bool, true, false, cond, List, [], ◌∷◌, length, take, drop, refl, sym, ◌∙◌, ap, arith, length-drop}
+use Rattle.std.specs.Prelude.{not, ◌==◌, nat_le, slice_range, Ok}
 use Rattle.std.specs.List.{prefix_len}
 use Rattle.std.proofs.lemmas.List.Sums.{prefix_len-le-length}
 use Rattle.std.proofs.lemmas.List.{drop-drop}
 use Rattle.std.proofs.lemmas.Bool.Decides.{nat_tests}
 use Rattle.qd_grammar.specs.Parts.{Part, parts_of, cut, with_front, a_part, no_part, fault}
 use Rattle.qd_text.specs.Cursor.{left, part_seen}
-use Rattle.qd_grammar.specs.declared.fault.Fault.{Fault}
 use Rattle.qd_grammar.specs.declared.fault.Why.TheVariants.{Form}
 
 abbrev pub is_inside : ℕ → Bool

@@ -1,13 +1,13 @@
 -- The parts of a description.
-use Rattle.std.proofs.Common.{◌≡◌, ℕ, zero, suc, ◌+◌, ◌<◌, ◌≤◌, Bool, true, false, List, [], ◌∷◌, ◌++◌, length, map, get_or, take, drop, nat_eq, refl, sym, ◌∙◌, ap, arith, add-one, length-drop, ◌-◌}
-use Rattle.std.specs.Prelude.{◌==◌, ◌&&◌, nat_lt, not, decimal, IsTrue, slice_index, slice_range, slice_get, Option, Some}
+use Rattle.std.proofs.Common.{◌≡◌, ℕ, zero, suc, ◌+◌, ◌<◌, ◌≤◌, Bool, true, false, List, [], ◌∷◌, ◌++◌, length, map, get_or, take, drop, nat_eq, refl, sym, ◌∙◌, ap, arith, length-drop, ◌-◌}
+use Rattle.std.specs.Prelude.{◌==◌, ◌&&◌, not, decimal, slice_range, slice_get, Some}
 use Rattle.std.specs.Cmp.Lexicographic.{pointwise}
 use Rattle.std.proofs.lemmas.Bool.Decides.{nat_tests}
 use Rattle.std.proofs.lemmas.List.{drop_more}
 use Rattle.std.proofs.lemmas.Fmt.{decimal_digit}
 use Rattle.qd_scheme.specs.declared.defs.FieldDef.{FieldDef}
 use Rattle.qd_scheme.specs.declared.defs.RecordDef.{RecordDef}
-use Rattle.std.specs.Prelude.{Result, Ok, Err}
+use Rattle.std.specs.Prelude.{Ok}
 use Rattle.qd_grammar.specs.declared.fault.Why.TheVariants.{SchemeMismatch}
 use Rattle.qd_grammar.specs.Parts.{fault}
 use Rattle.qd_text.specs.Cursor.{left}

@@ -1,6 +1,6 @@
 -- Texts joined by TABs, as they are appended one by one.
 use Rattle.std.proofs.Common.{◌≡◌, ℕ, zero, suc, ◌+◌, ◌≤◌, ◌<◌, List, [], ◌∷◌, ◌++◌, length, map, get_or, drop, refl, sym, ◌∙◌, ap, subst, arith, append_assoc, length-append}
-use Rattle.std.specs.Prelude.{Option, Some, None, slice_get, All}
+use Rattle.std.specs.Prelude.{Option, None, slice_get, All}
 use Rattle.std.proofs.lemmas.List.{drop_more}
 use lib.IntN.{ℤ, pos}
 use Rattle.qd_scheme.specs.declared.defs.FieldKind.{FieldKind}

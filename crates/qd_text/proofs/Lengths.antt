@@ -1,11 +1,11 @@
 -- How long the parts of canonical lines are.
-use Rattle.std.proofs.Common.{◌≡◌, ℕ, suc, ◌+◌, ◌≤◌, ◌<◌, Bool, true, false, cond, List, [], ◌∷◌, ◌++◌, length, get_or, ap, arith, length-append}
-use Rattle.std.specs.Prelude.{◌&&◌, nat_le, slice_get, IsTrue, All, Option, Some, None}
+use Rattle.std.proofs.Common.{◌≡◌, ℕ, ◌+◌, ◌≤◌, Bool, true, false, cond, List, [], ◌∷◌, ◌++◌, length, get_or, ap, arith, length-append}
+use Rattle.std.specs.Prelude.{◌&&◌, nat_le, slice_get, All, Some}
 use Rattle.std.specs.List.{list_all}
 use Rattle.std.proofs.lemmas.Bool.Decides.{nat_tests}
 use Rattle.std.proofs.lemmas.Option.{slice_get-get_or}
 use Rattle.qd_scheme.specs.Names.{is_name, is_letter, is_name_byte}
-use Rattle.qd_scheme.specs.Schemes.{IsRecord, IsScheme}
+use Rattle.qd_scheme.specs.Schemes.{IsScheme}
 use Rattle.qd_scheme.specs.declared.defs.FieldDef.{FieldDef}
 use Rattle.qd_scheme.specs.declared.defs.RecordDef.{RecordDef}
 pub use Rattle.qd_decimal.proofs.Fractions.{text_short, count_short}

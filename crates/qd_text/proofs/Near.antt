@@ -1,5 +1,5 @@
 -- The faults of a text of at most 4096 bytes are near.
-use Rattle.std.proofs.Common.{◌≡◌, ℕ, suc, ◌+◌, ◌-◌, ◌<◌, ◌≤◌, Bool, true, false, cond, List, [], ◌∷◌, ◌++◌, length, drop, min, refl, ap, arith, length-drop, length-append}
+use Rattle.std.proofs.Common.{◌≡◌, ℕ, ◌+◌, ◌≤◌, Bool, true, false, cond, List, [], ◌∷◌, ◌++◌, length, drop, min, refl, arith, length-drop, length-append}
 use Rattle.std.specs.Prelude.{IfErr, ◌==◌, ◌&&◌, nat_lt, slice_index, Option, Some, None, Result, Ok, Err}
 use lib.IntN.{ℤ}
 use Rattle.qd_decimal.specs.Exact.{past, ReadsDecimal, ReadsWhole, ReadsCount}

@@ -20,3 +20,13 @@ part_seen line at (Err e) = Err e
 -- the first part, by its end
 abbrev pub first_of : List ℕ → ℕ → Part
 first_of line end = record { place = 1; bytes = slice_range line 0 end }
+
+-- the same of a function that puts its value aside
+abbrev pub seen_with : {A : Type 0} → List ℕ → A → Result ℕ Fault → Result (A × List Part) Fault
+seen_with line value (Ok next) = Ok (value, left line next)
+seen_with line value (Err e) = Err e
+
+-- what a function returned and put aside
+abbrev pub put_aside : {A : Type 0} → Result (Unit {0}) Fault → A → Result A Fault
+put_aside (Ok done) value = Ok value
+put_aside (Err e) value = Err e

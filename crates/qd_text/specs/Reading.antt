@@ -1,5 +1,5 @@
 -- What a reader keeps and tells.
-use Rattle.std.specs.Prelude.{ℕ, Option, Some, None, Result, Ok, Err}
+use Rattle.std.specs.Prelude.{ℕ, Bool, true, false, Option, Some, None, Result, Ok, Err}
 use Rattle.qd_grammar.specs.declared.fault.Fault.{Fault}
 use Rattle.qd_grammar.specs.declared.item.Item.{Item}
 use Rattle.qd_grammar.specs.declared.item.Mode.{Mode}
@@ -17,6 +17,12 @@ pub record Reading : Type 0 where
 abbrev pub told : ℕ → Result (Option Item) Fault → Result (Option Item) BadLine
 told line (Ok item) = Ok item
 told line (Err f) = Err (record { line = line; place = f.place; why = f.why })
+
+-- the answer that says whether there is an item, with the item
+abbrev pub with_item : Result Bool BadLine → Item → Result (Option Item) BadLine
+with_item (Ok true) item = Ok (Some item)
+with_item (Ok false) item = Ok None
+with_item (Err bad) item = Err bad
 
 -- the state behind a line: another one only where the line spells an item
 abbrev pub state_after : Result (Option Item) Fault → State → State

@@ -1,10 +1,10 @@
 //! Body lines: what a line says under each message.
 
-ghost use Rattle.std.specs.Prelude.{◌≡◌, ◌≤◌, ◌<◌, ◌+◌, length, IfOk, IsTrue, All, Some, slice_get};
+ghost use Rattle.std.specs.Prelude.{◌≡◌, ◌≤◌, ◌<◌, ◌+◌, length, [], IfOk, IsTrue, All, Some, slice_get};
 ghost use Rattle.qd_scheme.specs.Faults.{has_scale};
 ghost use Rattle.qd_grammar.specs.Fields.{cells_at, hist_at, record_at};
 ghost use Rattle.qd_grammar.specs.Body.{kinds_of, kinds_at, key_at, record_line, event_line, sub_line, hist_sub_line, lost_line, message_line, body_line};
-ghost use Rattle.qd_text.specs.Cursor.{left, seen};
+ghost use Rattle.qd_text.specs.Cursor.{left, seen, seen_with, put_aside};
 
 use crate::cursor::{fault_at, line_end, part_end};
 use crate::fields::{cell_at, count_at, flags_at, loss_at, symbol_at};
@@ -31,22 +31,22 @@ pub fn def_of(scheme: &Scheme, rec: u32) -> &RecordDef
 
 /// One cell for each field, in order.
 #[tactic(auto, using(crate::proofs::Cells::cells_step, crate::proofs::Cells::cells_fail, crate::proofs::Cells::kinds_left, crate::proofs::Cells::scaled_field))]
-fn cells_at(line: &[u8], at: usize, fields: &[FieldDef]) -> Result<(Cells, usize), Fault>
+fn cells_at(line: &[u8], at: usize, fields: &[FieldDef], cells: &mut Cells) -> Result<usize, Fault>
+    requires none { cells.old ≡ [] }
     requires few { length fields.now ≤ 16 }
     requires scaled { All (λ field. IsTrue (has_scale field.kind)) fields.now }
     requires short { length line.now ≤ 4096 }
     requires within { at ≤ length line.now + 1 }
-    ensures read { seen line.now (λ c. c) result ≡ cells_at (kinds_of fields.now) (length line.now + 1) (left line.now at) }
-    ensures order { IfOk result (λ read. read.1 ≤ length line.now + 1) }
+    ensures read { seen_with line.now cells.new result ≡ cells_at (kinds_of fields.now) (length line.now + 1) (left line.now at) }
+    ensures order { IfOk result (λ next. next ≤ length line.now + 1) }
 {
-    let mut cells = Cells::new();
     let mut next = at;
     for field in fields {
         let (cell, after) = cell_at(line, next, field.kind)?;
         cells.push(cell);
         next = after;
     }
-    Ok((cells, next))
+    Ok(next)
 }
 
 /// Whether a record is one of the history.
@@ -93,100 +93,118 @@ fn key_at(line: &[u8], scheme: &Scheme, hist: bool) -> Result<(Key, usize), Faul
 
 /// The cells of a record's fields.
 #[tactic(auto, using(crate::proofs::Cells::kinds_there))]
-fn cells_of(line: &[u8], at: usize, scheme: &Scheme, rec: u32) -> Result<(Cells, usize), Fault>
+fn cells_of(
+    line: &[u8],
+    at: usize,
+    scheme: &Scheme,
+    rec: u32,
+    cells: &mut Cells,
+) -> Result<usize, Fault>
+    requires none { cells.old ≡ [] }
     requires known { rec < length scheme.now }
     requires short { length line.now ≤ 4096 }
     requires within { at ≤ length line.now + 1 }
-    ensures read { seen line.now (λ c. c) result ≡ cells_at (kinds_at (slice_get scheme.now rec)) (length line.now + 1) (left line.now at) }
-    ensures order { IfOk result (λ read. read.1 ≤ length line.now + 1) }
+    ensures read { seen_with line.now cells.new result ≡ cells_at (kinds_at (slice_get scheme.now rec)) (length line.now + 1) (left line.now at) }
+    ensures order { IfOk result (λ next. next ≤ length line.now + 1) }
 {
-    cells_at(line, at, def_of(scheme, rec).fields.as_slice())
+    cells_at(line, at, def_of(scheme, rec).fields.as_slice(), cells)
 }
 
 #[tactic(auto, unfolding(qd_grammar::specs::Body::record_line))]
-fn record_line(line: &[u8], scheme: &Scheme) -> Result<Item, Fault>
+fn record_line(line: &[u8], scheme: &Scheme, out: &mut Item) -> Result<(), Fault>
     requires { length line.now ≤ 4096 }
-    ensures { result ≡ record_line scheme.now (length line.now + 1) (left line.now 0) }
+    ensures { put_aside result out.new ≡ record_line scheme.now (length line.now + 1) (left line.now 0) }
 {
     let (key, next) = key_at(line, scheme, false)?;
-    let (cells, next) = cells_of(line, next, scheme, key.rec)?;
+    let mut cells = Cells::new();
+    let next = cells_of(line, next, scheme, key.rec, &mut cells)?;
     line_end(line, next)?;
-    Ok(Item::Rec(Record { key, cells }))
+    *out = Item::Rec(Record { key, cells });
+    Ok(())
 }
 
+#[inline(never)]
 #[tactic(auto, unfolding(qd_grammar::specs::Body::event_line))]
-fn event_line(line: &[u8], scheme: &Scheme) -> Result<Item, Fault>
+fn event_line(line: &[u8], scheme: &Scheme, out: &mut Item) -> Result<(), Fault>
     requires { length line.now ≤ 4096 }
-    ensures { result ≡ event_line scheme.now (length line.now + 1) (left line.now 0) }
+    ensures { put_aside result out.new ≡ event_line scheme.now (length line.now + 1) (left line.now 0) }
 {
     let (key, next) = key_at(line, scheme, true)?;
     let (index, next) = count_at(line, next, MOST)?;
     let (flags, next) = flags_at(line, next)?;
-    let (cells, next) = cells_of(line, next, scheme, key.rec)?;
+    let mut cells = Cells::new();
+    let next = cells_of(line, next, scheme, key.rec, &mut cells)?;
     line_end(line, next)?;
-    Ok(Item::Ev(Event {
+    *out = Item::Ev(Event {
         key,
         index,
         flags,
         cells,
-    }))
+    });
+    Ok(())
 }
 
+#[inline(never)]
 #[tactic(auto, unfolding(qd_grammar::specs::Body::sub_line))]
-fn sub_line(line: &[u8], scheme: &Scheme, hist: bool) -> Result<Item, Fault>
+fn sub_line(line: &[u8], scheme: &Scheme, hist: bool, out: &mut Item) -> Result<(), Fault>
     requires { length line.now ≤ 4096 }
-    ensures { result ≡ sub_line hist scheme.now (length line.now + 1) (left line.now 0) }
+    ensures { put_aside result out.new ≡ sub_line hist scheme.now (length line.now + 1) (left line.now 0) }
 {
     let (key, next) = key_at(line, scheme, hist)?;
     line_end(line, next)?;
-    Ok(Item::Sub(key))
+    *out = Item::Sub(key);
+    Ok(())
 }
 
+#[inline(never)]
 #[tactic(auto, unfolding(qd_grammar::specs::Body::hist_sub_line))]
-fn hist_sub_line(line: &[u8], scheme: &Scheme) -> Result<Item, Fault>
+fn hist_sub_line(line: &[u8], scheme: &Scheme, out: &mut Item) -> Result<(), Fault>
     requires { length line.now ≤ 4096 }
-    ensures { result ≡ hist_sub_line scheme.now (length line.now + 1) (left line.now 0) }
+    ensures { put_aside result out.new ≡ hist_sub_line scheme.now (length line.now + 1) (left line.now 0) }
 {
     let (key, next) = key_at(line, scheme, true)?;
     let (limit, next) = count_at(line, next, MOST)?;
     line_end(line, next)?;
-    Ok(Item::HistSub(Sub { key, limit }))
+    *out = Item::HistSub(Sub { key, limit });
+    Ok(())
 }
 
+#[inline(never)]
 #[tactic(auto, unfolding(qd_grammar::specs::Body::lost_line))]
-fn lost_line(line: &[u8], scheme: &Scheme) -> Result<Item, Fault>
+fn lost_line(line: &[u8], scheme: &Scheme, out: &mut Item) -> Result<(), Fault>
     requires { length line.now ≤ 4096 }
-    ensures { result ≡ lost_line scheme.now (length line.now + 1) (left line.now 0) }
+    ensures { put_aside result out.new ≡ lost_line scheme.now (length line.now + 1) (left line.now 0) }
 {
     let (key, next) = key_at(line, scheme, false)?;
     let (count, next) = loss_at(line, next)?;
     line_end(line, next)?;
-    Ok(Item::Lost(key, count))
+    *out = Item::Lost(key, count);
+    Ok(())
 }
 
 /// A line under a message.
-fn message_line(line: &[u8], scheme: &Scheme, message: Message) -> Result<Item, Fault>
+fn message_line(line: &[u8], scheme: &Scheme, message: Message, out: &mut Item) -> Result<(), Fault>
     requires { length line.now ≤ 4096 }
-    ensures { result ≡ message_line scheme.now message (length line.now + 1) (left line.now 0) }
+    ensures { put_aside result out.new ≡ message_line scheme.now message (length line.now + 1) (left line.now 0) }
 {
     match message {
-        Message::TickerData | Message::StreamData => record_line(line, scheme),
-        Message::HistoryData => event_line(line, scheme),
-        Message::StreamLost => lost_line(line, scheme),
-        Message::TickerAdd | Message::StreamAdd => sub_line(line, scheme, false),
-        Message::TickerRemove | Message::StreamRemove => sub_line(line, scheme, false),
-        Message::HistoryAdd => hist_sub_line(line, scheme),
-        Message::HistoryRemove => sub_line(line, scheme, true),
+        Message::TickerData | Message::StreamData => record_line(line, scheme, out),
+        Message::HistoryData => event_line(line, scheme, out),
+        Message::StreamLost => lost_line(line, scheme, out),
+        Message::TickerAdd | Message::StreamAdd => sub_line(line, scheme, false, out),
+        Message::TickerRemove | Message::StreamRemove => sub_line(line, scheme, false, out),
+        Message::HistoryAdd => hist_sub_line(line, scheme, out),
+        Message::HistoryRemove => sub_line(line, scheme, true, out),
     }
 }
 
-/// A body line, which belongs to the current message.
-pub fn body_line(line: &[u8], scheme: &Scheme, state: &State) -> Result<Item, Fault>
+/// A body line, which belongs to the current message. Its item is put aside, so that no large value is handed on.
+pub fn body_line(line: &[u8], scheme: &Scheme, state: &State, out: &mut Item) -> Result<(), Fault>
     requires { length line.now ≤ 4096 }
-    ensures { result ≡ body_line state.now scheme.now (length line.now + 1) (left line.now 0) }
+    ensures { put_aside result out.new ≡ body_line state.now scheme.now (length line.now + 1) (left line.now 0) }
 {
     match state.message {
         None => Err(fault_at(0, Why::Order)),
-        Some(message) => message_line(line, scheme, message),
+        Some(message) => message_line(line, scheme, message, out),
     }
 }

@@ -2,7 +2,8 @@
 
 ghost use Rattle.std.specs.Prelude.{◌≡◌, ◌≤◌, ◌<◌, ◌+◌, ◌^◌, length};
 ghost use Rattle.qd_grammar.specs.Lines.{first_state, is_skipped, is_control, is_description, item_of, answer_of, after};
-ghost use Rattle.qd_text.specs.Reading.{told, state_after};
+ghost use Rattle.qd_text.specs.Cursor.{put_aside};
+ghost use Rattle.qd_text.specs.Reading.{told, with_item, state_after};
 
 use crate::body::body_line;
 use crate::control::{control_line, first_line};
@@ -71,14 +72,32 @@ impl Reader {
         ensures lines { self.new.lines ≡ self.old.lines + 1 }
         ensures mode { self.new.mode ≡ self.old.mode }
     {
+        let mut item = Item::End;
+        match self.read(scheme, line, &mut item) {
+            Ok(true) => Ok(Some(item)),
+            Ok(false) => Ok(None),
+            Err(bad) => Err(bad),
+        }
+    }
+
+    /// The same for a caller that has a place for the item: true where the line spells one, which stands there then. After
+    /// another answer what stands there means nothing.
+    pub fn read(&mut self, scheme: &Scheme, line: &[u8], item: &mut Item) -> Result<bool, BadLine>
+        requires short { length line.now ≤ 4096 }
+        requires lines { self.old.lines < 2 ^ 63 }
+        ensures answer { let answer = answer_of self.old.mode self.old.state scheme.now line.now in with_item result item.new ≡ told (self.old.lines + 1) answer }
+        ensures state { let answer = answer_of self.old.mode self.old.state scheme.now line.now in self.new.state ≡ state_after answer self.old.state }
+        ensures lines { self.new.lines ≡ self.old.lines + 1 }
+        ensures mode { self.new.mode ≡ self.old.mode }
+    {
         self.lines += 1;
         if is_skipped(line) {
-            return Ok(None);
+            return Ok(false);
         }
-        match item_of(self.mode, &self.state, scheme, line) {
-            Ok(item) => {
-                note(&mut self.state, &item);
-                Ok(Some(item))
+        match item_of(self.mode, &self.state, scheme, line, item) {
+            Ok(()) => {
+                note(&mut self.state, item);
+                Ok(true)
             }
             Err(fault) => Err(BadLine {
                 line: self.lines,
@@ -119,20 +138,57 @@ pub fn is_description(line: &[u8]) -> bool
     !line.is_empty() && line[0] == b'='
 }
 
-/// The item or the fault of a line that is not skipped.
-fn item_of(mode: Mode, state: &State, scheme: &Scheme, line: &[u8]) -> Result<Item, Fault>
-    requires { length line.now ≤ 4096 }
-    ensures { result ≡ item_of mode state.now scheme.now line.now }
+/// Puts an item aside.
+fn set_aside(read: Result<Item, Fault>, out: &mut Item) -> Result<(), Fault>
+    ensures { put_aside result out.new ≡ read }
 {
-    let end = first_end(line);
+    match read {
+        Ok(item) => {
+            *out = item;
+            Ok(())
+        }
+        Err(fault) => Err(fault),
+    }
+}
+
+/// The item, which is put aside, or the fault of a line that is not skipped. Body lines are most lines, and the way to them has
+/// none of the values that the other lines need.
+fn item_of(
+    mode: Mode,
+    state: &State,
+    scheme: &Scheme,
+    line: &[u8],
+    out: &mut Item,
+) -> Result<(), Fault>
+    requires { length line.now ≤ 4096 }
+    ensures { put_aside result out.new ≡ item_of mode state.now scheme.now line.now }
+{
+    if !state.started || is_description(line) {
+        return any_item(mode, state, scheme, line, out);
+    }
+    body_line(line, scheme, state, out)
+}
+
+/// The same, line by line of the grammar.
+#[inline(never)]
+fn any_item(
+    mode: Mode,
+    state: &State,
+    scheme: &Scheme,
+    line: &[u8],
+    out: &mut Item,
+) -> Result<(), Fault>
+    requires { length line.now ≤ 4096 }
+    ensures { put_aside result out.new ≡ item_of mode state.now scheme.now line.now }
+{
     if !state.started {
-        return first_line(line, end);
+        return first_line(line, first_end(line), out);
     }
     if is_control(line) {
-        return control_line(line, end, mode, state);
+        return control_line(line, first_end(line), mode, state, out);
     }
     if is_description(line) {
-        return describe_line(line, end, scheme);
+        return set_aside(describe_line(line, first_end(line), scheme), out);
     }
-    body_line(line, scheme, state)
+    body_line(line, scheme, state, out)
 }

@@ -1,6 +1,6 @@
 //! Scheme files: a text of descriptions, read line by line into a scheme.
 
-ghost use Rattle.std.specs.Prelude.{◌≡◌, ◌≤◌, ◌<◌, ◌+◌, ◌++◌, ◌∷◌, [], ◌^◌, length, take, OnOk, OnErr, IfOk, IfErr, Some, slice_get};
+ghost use Rattle.std.specs.Prelude.{◌≡◌, ◌≤◌, ◌<◌, ◌+◌, ◌++◌, ◌∷◌, [], ◌^◌, length, take, OnOk, OnErr, IfOk, IfErr, Some, None, slice_get};
 ghost use Rattle.qd_scheme.specs.Faults.{scheme_fault};
 ghost use Rattle.qd_text.specs.SchemeLines.{no_lines, told, IsLineRead, IsRefusal};
 
@@ -77,6 +77,7 @@ impl SchemeReader {
     /// The scheme of the records that were read, or the first fault of the list, told with the line of its record.
     pub fn finish(self) -> Result<Scheme, SchemeEnd>
         ensures made { IfOk result (λ scheme. scheme ≡ self.defs) }
+        ensures right { OnOk result (scheme_fault self.defs ≡ None) }
         ensures refused { IfErr result (IsRefusal self) }
     {
         let SchemeReader {

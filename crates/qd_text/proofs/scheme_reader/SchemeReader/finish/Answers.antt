@@ -1,4 +1,4 @@
-use Rattle.std.proofs.Common.{◌≡◌, ◌<◌, List, length, take, ap, subst, sym, ◌∙◌, arith, rules}
+use Rattle.std.proofs.Common.{◌≡◌, ◌<◌, List, length, take, ap, subst, ◌∙◌, arith, rules}
 use Rattle.std.specs.Prelude.{Some, slice_get}
 use Rattle.qd_scheme.specs.Faults.{scheme_fault}
 use Rattle.qd_scheme.specs.declared.defs.RecordDef.{RecordDef}
