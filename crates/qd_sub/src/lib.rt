@@ -7,8 +7,6 @@
 
 mod op;
 mod sub;
-mod table;
 
 pub use op::{Op, Reply};
 pub use sub::{Sub, Want};
-pub use table::{Cell, Hold, Holds, Names};

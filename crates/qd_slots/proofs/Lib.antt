@@ -1,0 +1,4 @@
+pub mod NameLaws
+pub mod IndexLaws
+pub mod HoldLaws
+pub mod ViewLaws

@@ -1,5 +1,0 @@
-use Rattle.qd_sub.proofs.HoldLaws.{holding-new}
-use Rattle.qd_sub.proofs.table.holds.Holds.new.Goals as goal
-
-pub invariant_of-result : goal.invariant_of-result
-invariant_of-result c = holding-new c.new.result.items c.in_ok-orders.orders.items c.new.ensures.items c.in_ok-orders.ensures
