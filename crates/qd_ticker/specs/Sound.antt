@@ -1,18 +1,14 @@
 -- What is true of the fields of a stripe.
-use Rattle.std.specs.Prelude.{ℕ, ◌≡◌, ◌≤◌, true, List, length}
-use Rattle.std.specs.List.{list_all}
-use Rattle.qd_ticker.specs.declared.slots.Slot.{Slot}
-use Rattle.qd_ticker.specs.Pairs.{Pair, has_pair, once}
+use Rattle.std.specs.Prelude.{ℕ, ◌≡◌, ◌<◌, true, Option, Some, List, length}
+use Rattle.qd_scheme.specs.declared.key.Key.{Key}
+use Rattle.qd_scheme.specs.declared.key.Record.{Record}
+use Rattle.qd_pend.specs.Slots.{SlotList}
+use Rattle.qd_slots.specs.Holds.{is_subscribed}
+use Rattle.qd_table.specs.Tables.{Table, key_at, hold_for}
+use Rattle.qd_ticker.specs.Stripes.{queue_at}
 
--- no pair stands twice, and each pending pair is subscribed
-pub record IsFit (pairs queue : List Pair) : Type 0 where
-  pub single : once pairs ≡ true
-  pub apart : once queue ≡ true
-  pub within : list_all (has_pair pairs) queue ≡ true
-
--- few keys and pairs, and room for every pair in the queue
-pub record IsSound (slots : List Slot) (pairs queue : List Pair) (room : ℕ) : Type 0 where
-  pub few_keys : length slots ≤ 16384
-  pub few_pairs : length pairs ≤ 262144
-  pub fit : IsFit pairs queue
-  pub room_for_all : length pairs ≤ room
+-- there is a queue for each agent, a place for the last record of each slot with a key, and room in an agent's queue for each slot that it is subscribed to
+pub record IsSound (table : Table) (lasts : List (Option Record)) (queues : List SlotList) : Type 0 where
+  pub agents : length queues ≡ 128
+  pub places : (slot : ℕ) (k : Key) → key_at table slot ≡ Some k → slot < length lasts
+  pub room : (a slot : ℕ) → is_subscribed (hold_for table a slot) ≡ true → slot < (queue_at queues a).slots

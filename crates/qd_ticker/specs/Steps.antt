@@ -1,111 +1,108 @@
--- What the ops leave of what a stripe keeps.
-use Rattle.std.specs.Prelude.{ℕ, zero, suc, ◌≡◌, ◌⊎◌, ◌+◌, nat_lt, length, MatchBool, Bool, not, if◌then◌else◌, Option, Some, None, List, [], ◌∷◌, ◌++◌, map}
-use Rattle.std.specs.List.{filter}
-use Rattle.std.specs.Option.{option_to_list, option_and_then}
+-- What the calls leave of what a stripe keeps.
+use Rattle.std.specs.Prelude.{ℕ, ◌≡◌, ◌≤◌, ◌<◌, Bool, true, false, ◌&&◌, not, nat_eq, if◌then◌else◌, Option, Some, None, is_some, List, [], length, map, max, take}
+use Rattle.std.specs.Option.{option_and_then}
 use Rattle.qd_scheme.specs.declared.key.Key.{Key}
 use Rattle.qd_scheme.specs.declared.key.Record.{Record}
-use Rattle.qd_scheme.specs.Keys.{key_eq}
-use Rattle.qd_buffer.specs.Filled.{with_items}
+use Rattle.qd_buffer.specs.Filled.{Filled, with_items}
+use Rattle.qd_pend.specs.Slots.{SlotList, without, first_in, rest_of}
 use Rattle.qd_sub.specs.declared.sub.Sub.{Sub}
 use Rattle.qd_sub.specs.declared.op.Op.{Op}
-use Rattle.qd_sub.specs.declared.op.Op.TheVariants.{Add, Remove, Close, Put, Take, Watch}
 use Rattle.qd_sub.specs.declared.op.Reply.{Reply}
-use Rattle.qd_sub.specs.declared.op.Reply.TheVariants.{Done, Items, TooManyKeys, TooManySubs, NoMemory}
-use Rattle.qd_sub.specs.Holding.{has_key, fresh}
-use Rattle.qd_ticker.specs.declared.slots.Slot.{Slot}
-use Rattle.qd_ticker.specs.Slots.{keys_in, last_in}
-use Rattle.qd_ticker.specs.Slots.{with_slot, with_record, is_over}
-use Rattle.qd_ticker.specs.Pairs.{Pair, has_pair, any_key, keys_for, first_for, without, with_pair, with_key}
-use Rattle.qd_ticker.specs.Stripes.{Shown}
+use Rattle.qd_sub.specs.declared.op.Reply.TheVariants.{Done, Items, Wants, TooManyKeys, TooManySubs, NoMemory}
+use Rattle.qd_sub.specs.Acts.{Act, Subscribed, Gave}
+use Rattle.qd_sub.specs.Logs.{after}
+use Rattle.qd_table.specs.declared.table.SubFault.TheVariants.{TooManyKeys as FaultKeys, TooManySubs as FaultSubs}
+use Rattle.qd_slots.specs.Holds.{is_subscribed}
+use Rattle.qd_table.specs.Tables.{Table, slots_in, slot_for, hold_for, limit_by, is_wanted_slot, queue_of, fault_of}
+use Rattle.qd_table.specs.Steps.{IsSame, IsSubscribed, IsEnded, TellsAll}
+use Rattle.qd_ticker.specs.Pending.{TickerMoment, taken}
+use Rattle.qd_ticker.specs.Legal.{ticker_acts, IsLawful}
+use Rattle.qd_ticker.specs.Kept.{with_slot}
+use Rattle.qd_ticker.specs.Stripes.{Shown, StandsAt, last_at, queue_at}
 
--- p at the end, if there is a record
-abbrev pub and_pending : List Pair → Pair → Option Record → List Pair
-and_pending queue p None = queue
-and_pending queue p (Some r) = queue ++ p ∷ []
+-- a queue with the slot, without it, without its first, and with room for more slots
+abbrev pub with_queued : SlotList → ℕ → SlotList
+with_queued q slot = record { list = with_slot q.list slot; slots = q.slots }
 
--- after a subscription
-unfoldable pub with_sub : Shown → ℕ → Key → Shown
-with_sub s a k = record {
-  slots = with_slot s.slots k;
-  pairs = with_pair s.pairs (a, k);
-  queue = if has_pair s.pairs (a, k) then s.queue else and_pending s.queue (a, k) (last_in s.slots k);
-}
+abbrev pub with_dropped : SlotList → ℕ → SlotList
+with_dropped q slot = record { list = without q.list slot; slots = q.slots }
 
-unfoldable pub with_subs : Shown → ℕ → List Key → Shown
-with_subs s a [] = s
-with_subs s a (k ∷ ks) = with_subs (with_sub s a k) a ks
+abbrev pub with_popped : SlotList → SlotList
+with_popped q = record { list = rest_of q.list; slots = q.slots }
 
--- the slots of the keys that some pair still has
-abbrev pub slots_left : List Slot → List Pair → Key → List Slot
-slots_left slots pairs k = if any_key pairs k then slots else filter (λ s. not (key_eq k s.key)) slots
+abbrev pub with_room : SlotList → ℕ → SlotList
+with_room q slots = record { list = q.list; slots = max q.slots slots }
 
--- after the end of a subscription
-unfoldable pub with_end : Shown → ℕ → Key → Shown
-with_end s a k = record {
-  slots = slots_left s.slots (without s.pairs (a, k)) k;
-  pairs = without s.pairs (a, k);
-  queue = without s.queue (a, k);
-}
+-- a Put of one record: where its key has a slot with agents, it is the slot's last one, and the slot is pending for each of them
+pub record IsPut (s : Shown) (r : Record) (t : Shown) : Type 0 where
+  pub table : t.table ≡ s.table
+  pub nowhere : slot_for s.table r.key ≡ None → t ≡ s
+  pub lasts : (slot : ℕ) → slot_for s.table r.key ≡ Some slot → (i : ℕ) → last_at t.lasts i ≡ (if nat_eq slot i && is_wanted_slot s.table slot then Some r else last_at s.lasts i)
+  pub queues : (slot : ℕ) → slot_for s.table r.key ≡ Some slot → (a : ℕ) → queue_at t.queues a ≡ (if is_subscribed (hold_for s.table a slot) then with_queued (queue_at s.queues a) slot else queue_at s.queues a)
 
--- after a Remove of one key
-unfoldable pub with_removal : Shown → ℕ → Key → Shown
-with_removal s a k = if has_pair s.pairs (a, k) then with_end s a k else s
+-- a subscription: a new one finds the slot pending, if it has a last record
+pub record IsAdded (s : Shown) (a : ℕ) (k : Key) (slot : ℕ) (t : Shown) : Type 0 where
+  pub agent : a < 128
+  pub table : IsSubscribed s.table a k 0 slot t.table
+  pub lasts : t.lasts ≡ s.lasts
+  pub queues : (b : ℕ) → queue_at t.queues b ≡ (if nat_eq a b && (not (is_some (limit_by s.table a k)) && is_some (last_at s.lasts slot)) then with_queued (queue_at s.queues b) slot else queue_at s.queues b)
 
-unfoldable pub with_removals : Shown → ℕ → List Key → Shown
-with_removals s a [] = s
-with_removals s a (k ∷ ks) = with_removals (with_removal s a k) a ks
+-- the end of a subscription: the slot is pending no more, and without an agent it has no last record
+pub record IsDropped (s : Shown) (a slot : ℕ) (t : Shown) : Type 0 where
+  pub table : IsEnded s.table a slot false t.table
+  pub lasts : (i : ℕ) → last_at t.lasts i ≡ (if nat_eq slot i && not (is_wanted_slot t.table slot) then None else last_at s.lasts i)
+  pub queues : (b : ℕ) → queue_at t.queues b ≡ (if nat_eq a b then with_dropped (queue_at s.queues b) slot else queue_at s.queues b)
 
--- after a Put of one record
-unfoldable pub with_put : Shown → Record → Shown
-with_put s r = record {
-  slots = with_record s.slots r;
-  pairs = s.pairs;
-  queue = if has_key (keys_in s.slots) r.key then with_key s.queue s.pairs r.key else s.queue;
-}
+-- a gift: the last record of the agent's first pending slot
+pub record IsGiven (s : Shown) (a : ℕ) (given : Option Record) (t : Shown) : Type 0 where
+  pub first : given ≡ option_and_then (last_at s.lasts) (first_in (queue_at s.queues a).list)
+  pub table : t.table ≡ s.table
+  pub lasts : t.lasts ≡ s.lasts
+  pub queues : (b : ℕ) → queue_at t.queues b ≡ (if nat_eq a b then with_popped (queue_at s.queues b) else queue_at s.queues b)
 
-unfoldable pub with_puts : Shown → List Record → Shown
-with_puts s [] = s
-with_puts s (r ∷ rs) = with_puts (with_put s r) rs
+-- only the room has changed
+pub record IsRoomier (s t : Shown) : Type 0 where
+  pub table : IsSame s.table t.table
+  pub lasts : (i : ℕ) → last_at t.lasts i ≡ last_at s.lasts i
+  pub queues : (b : ℕ) → (queue_at t.queues b).list ≡ (queue_at s.queues b).list
 
--- after a gift of k to a
-unfoldable pub with_gift : Shown → ℕ → Key → Shown
-with_gift s a k = record { slots = s.slots; pairs = s.pairs; queue = without s.queue (a, k) }
+-- there is room for each slot, and for an agent to have each of them pending
+pub record HasRoom (s : Shown) (a : ℕ) : Type 0 where
+  pub lasts : slots_in s.table ≤ length s.lasts
+  pub queue : slots_in s.table ≤ (queue_at s.queues a).slots
 
--- what a is given first, and what is left then
-abbrev pub gift_to : ℕ → Shown → Option Record
-gift_to a s = option_and_then (last_in s.slots) (first_for a s.queue)
+-- a telling: only the table changes
+pub record IsTelling (s : Shown) (w most : ℕ) (t : Shown) : Type 0 where
+  pub watcher : w < 8
+  pub table : TellsAll s.table w (take most (queue_of s.table w)) t.table
+  pub lasts : t.lasts ≡ s.lasts
+  pub queues : t.queues ≡ s.queues
 
-abbrev pub after_gift : Shown → ℕ → Option Key → Shown
-after_gift s a None = s
-after_gift s a (Some k) = with_gift s a k
+-- for each moment for which it stood, the stripe stands for the moment after these acts
+abbrev pub Leads : Shown → (TickerMoment → List (Act Record Record)) → Shown → Type 0
+Leads s acts t = (now : TickerMoment) → StandsAt s now → StandsAt t (after now (acts now))
 
--- what a is given by a Take of at most n
-unfoldable pub gifts_to : ℕ → ℕ → Shown → List Record
-gifts_to zero a s = []
-gifts_to (suc n) a s = option_to_list (gift_to a s) ++ gifts_to n a (after_gift s a (first_for a s.queue))
+-- the acts of an Add
+abbrev pub add_acts : ℕ → List Sub → List (Act Record Record)
+add_acts a subs = map (λ x. Subscribed a x.key 0) subs
 
-unfoldable pub after_gifts : ℕ → ℕ → Shown → Shown
-after_gifts zero a s = s
-after_gifts (suc n) a s = after_gifts n a (after_gift s a (first_for a s.queue))
-
--- with these subscriptions of a too many pairs would be held
-unfoldable pub is_over_subs : List Pair → ℕ → List Sub → Bool
-is_over_subs pairs a subs = nat_lt 262144 (length pairs + length (fresh (keys_for a pairs) (map (λ x. x.key) subs)))
+-- the acts of a Take that gave these
+abbrev pub gift_acts : ℕ → List Record → List (Act Record Record)
+gift_acts a rs = map (λ r. Gave a r.key r) rs
 
 -- an Add: refused just where too many keys or pairs would be held, else done, or refused for want of memory
-unfoldable pub Adds : Shown → ℕ → List Sub → Reply Record → Shown → Type 0
-Adds s a subs reply t =
-    MatchBool (is_over s.slots subs)
-    ((reply ≡ TooManyKeys) × (t ≡ s))
-    (MatchBool (is_over_subs s.pairs a subs)
-    ((reply ≡ TooManySubs) × (t ≡ s))
-    (((reply ≡ Done) × (t ≡ with_subs s a (map (λ x. x.key) subs))) ⊎ ((reply ≡ NoMemory) × (t ≡ s))))
+abbrev pub Adds : Shown → ℕ → List Sub → Reply Record → Shown → Type 0
+Adds s a subs Done t = (fault_of s.table a subs ≡ None) × Leads s (λ now. add_acts a subs) t
+Adds s a subs TooManyKeys t = (fault_of s.table a subs ≡ Some FaultKeys) × Leads s (λ now. []) t
+Adds s a subs TooManySubs t = (fault_of s.table a subs ≡ Some FaultSubs) × Leads s (λ now. []) t
+Adds s a subs NoMemory t = (fault_of s.table a subs ≡ None) × Leads s (λ now. []) t
+Adds s a subs (Items given) t = ⊥
+Adds s a subs (Wants told) t = ⊥
 
--- a step: what it replies and what it leaves
-unfoldable pub StepsTo : Shown → Op Record Record → Reply Record → Shown → Type 0
-StepsTo s (Add agent subs) reply t = Adds s agent subs.items reply t
-StepsTo s (Remove agent keys) reply t = (reply ≡ Done) × (t ≡ with_removals s agent keys.items)
-StepsTo s (Close agent) reply t = (reply ≡ Done) × (t ≡ with_removals s agent (keys_for agent s.pairs))
-StepsTo s (Put items) reply t = (reply ≡ Done) × (t ≡ with_puts s items.items)
-StepsTo s (Take agent most out) reply t = (reply ≡ Items (with_items out (gifts_to most agent s))) × (t ≡ after_gifts most agent s)
-StepsTo s (Watch watcher most out) reply t = ⊥
+-- a step: for each moment for which the stripe stood, the reply is lawful, and it stands for the moment after its acts
+abbrev pub Answers : Shown → Op Record Record → Reply Record → Shown → Type 0
+Answers s op reply t = (now : TickerMoment) → StandsAt s now → StandsAt t (after now (ticker_acts now op reply)) × IsLawful now op reply
+
+-- a Take: what is given is what the agent is to be given, in the buffer
+abbrev pub Takes : Shown → ℕ → ℕ → Filled Record → Filled Record → Shown → Type 0
+Takes s a most old new t = (now : TickerMoment) → StandsAt s now → (new ≡ with_items old (taken a most now)) × StandsAt t (after now (gift_acts a (taken a most now)))

@@ -1,44 +1,49 @@
-ghost use Rattle.std.specs.Prelude.{◌≡◌, ◌+◌, ◌-◌, ◌≤◌, ◌∷◌, ◌++◌, [], length, IfOk, ℕ, List, Some};
+//! The stripe.
+
+ghost use Rattle.std.specs.Prelude.{◌≡◌, ◌+◌, ◌≤◌, ◌<◌, ◌∷◌, ◌++◌, [], true, length, map, IfOk, IfErr, OnOk, ℕ, List, Some, None};
 ghost use Rattle.qd_buffer.specs.Filled.{with_items};
 ghost use Rattle.qd_gate.specs.Logs.{entry};
+ghost use Rattle.qd_sub.specs.Acts.{Unsubscribed, Closed, Came};
+ghost use Rattle.qd_sub.specs.Subscriptions.{keys_of};
+ghost use Rattle.qd_sub.specs.Logs.{ends_of};
+ghost use Rattle.qd_slots.specs.Holds.{is_subscribed};
+ghost use Rattle.qd_table.specs.Tables.{hold_for, room_for, wants_for, fault_of};
+ghost use Rattle.qd_table.specs.Steps.{IsCause};
 ghost use Rattle.qd_ticker.specs.Legal.{TickerEntry, no_terms, IsLegal};
 ghost use Rattle.qd_ticker.specs.Asking.{MayAsk};
-ghost use Rattle.qd_ticker.specs.Pairs.{keys_for, first_for as first_of};
 ghost use Rattle.qd_ticker.specs.Stripes.{Stands};
-ghost use Rattle.qd_ticker.specs.Steps.{with_removal, with_removals, with_put, with_puts, gift_to, after_gift, gifts_to, after_gifts, Adds, StepsTo};
+ghost use Rattle.qd_ticker.specs.Steps.{IsPut, IsAdded, IsDropped, IsGiven, IsRoomier, HasRoom, IsTelling, Leads, Takes, Adds, Answers, add_acts};
 
-use crate::keep::{add_subs, drop_unused, push_some, reserve};
-use crate::pairs::{Pair, add_key, count_fresh, first_for, has_pair, remove_pair};
-use crate::slots::{self, Slot, last_of, set_record};
+use crate::lasts::{drop_last, has_last, last_of, reserve_lasts, set_last};
+use crate::queues::{drop_slot, empty_queues, pop_slot, queue_for_all, queue_slot, reserve_queue};
 use qd_buffer::Buffer;
 use qd_gate::{Machine, NoMemory};
-use qd_scheme::{AgentNo, Key, Record};
-use qd_sub::{Op, Reply, Sub};
-use std::alloc::Global;
+use qd_pend::PendQueue;
+use qd_scheme::{AgentNo, Key, Record, WatcherNo};
+use qd_sub::{Op, Reply, Sub, Want};
+use qd_table::{SubFault, SubTable};
+use std::alloc::{AllocError, Global};
 use std::marker::Model;
 
-const MOST_KEYS: usize = 16_384;
-
-const MOST_PAIRS: usize = 262_144;
-
 /// One part of the ticker: subscriptions, the last record of each wanted key, and which keys are pending for whom.
+///
+/// A key has a slot of the table while it is held, and all else is kept by slots. Only `new` and an Add take memory.
 #[derive(Drop)]
 pub struct TickerStripe {
-    slots: Vec<Slot>,
-    pairs: Vec<Pair>,
-    queue: Vec<Pair>,
+    table: SubTable,
+    lasts: Vec<Option<Record>>,
+    queues: Vec<PendQueue>,
 }
 
 impl Model for TickerStripe {
-    ghost use Rattle.std.specs.Prelude.{vec_capacity};
     ghost use Rattle.qd_ticker.specs.Stripes.{Shown};
     ghost use Rattle.qd_ticker.specs.Sound.{IsSound};
 
     ghost Value = { Shown };
 
-    ghost view = { λ s. record { slots = s.slots.items; pairs = s.pairs.items; queue = s.queue.items } };
+    ghost view = { λ s. record { table = s.table; lasts = s.lasts.items; queues = s.queues.items } };
 
-    ghost invariant = { λ s. IsSound s.slots.items s.pairs.items s.queue.items (vec_capacity s.queue) };
+    ghost invariant = { λ s. IsSound s.table s.lasts.items s.queues.items };
 }
 
 impl TickerStripe {
@@ -46,74 +51,134 @@ impl TickerStripe {
     pub fn new(alloc: Global) -> Result<TickerStripe, NoMemory>
         ensures { IfOk result (λ s. Stands s []) }
     {
+        let table = SubTable::new(alloc)?;
+        let queues = empty_queues(alloc)?;
         Ok(TickerStripe {
-            slots: Vec::new(alloc),
-            pairs: Vec::new(alloc),
-            queue: Vec::new(alloc),
+            table,
+            lasts: Vec::new(alloc),
+            queues,
         })
     }
 
+    /// Keeps a record as the last one of its key, which becomes pending for each of its agents.
     fn put(&mut self, latest: &Record)
-        ensures put { self.new ≡ with_put self.old latest.now }
+        ensures { IsPut self.old latest.now self.new }
     {
-        if set_record(&mut self.slots, latest) {
-            add_key(&mut self.queue, &self.pairs, &latest.key);
+        if let Some(slot) = self.table.slot_of(&latest.key) {
+            if queue_for_all(&mut self.queues, &self.table, slot) {
+                set_last(&mut self.lasts, slot, latest);
+            }
+        }
+    }
+
+    /// Subscribes an agent to a key, and tells its slot.
+    fn subscribe(&mut self, agent: AgentNo, key: &Key) -> u32
+        requires subscriptions { 0 < room_for self.old.table agent }
+        requires room { HasRoom self.old agent }
+        ensures { IsAdded self.old agent key.now result self.new }
+    {
+        let number = agent.get();
+        let was = self.table.limit_of(agent, key).is_some();
+        let slot = self.table.subscribe(agent, key, 0);
+        if !was && has_last(&self.lasts, slot) {
+            queue_slot(&mut self.queues, number, slot);
+        }
+        slot
+    }
+
+    /// Ends an agent's subscription to a slot.
+    fn end(&mut self, agent: AgentNo, slot: u32)
+        requires { is_subscribed (hold_for self.old.table agent slot) ≡ true }
+        ensures { IsDropped self.old agent slot self.new }
+    {
+        drop_slot(&mut self.queues, agent.get(), slot);
+        if self.table.end(agent, slot, false) {
+            drop_last(&mut self.lasts, slot);
+        }
+    }
+
+    /// The last record of an agent's first pending key, which is then pending no more.
+    fn take_first(&mut self, agent: AgentNo) -> Option<Record>
+        ensures { IsGiven self.old agent result self.new }
+    {
+        match pop_slot(&mut self.queues, agent.get()) {
+            None => None,
+            Some(slot) => last_of(&self.lasts, slot),
         }
     }
 
     fn put_all(&mut self, items: &[Record])
-        ensures put { self.new ≡ with_puts self.old items.now }
+        ensures { Leads self.old (λ now. map (λ r. Came r.key r) items.now) self.new }
     {
         for latest in items {
             self.put(latest);
         }
     }
 
+    /// Judges an Add, and makes room for it and for all that the agent may have pending.
+    fn admit(&mut self, agent: AgentNo, subs: &[Sub]) -> Result<(), SubFault>
+        requires { length subs.now ≤ 4096 }
+        ensures same { IsRoomier self.old self.new }
+        ensures allowed { OnOk result (fault_of self.old.table agent subs.now ≡ None) }
+        ensures subscriptions { OnOk result (length subs.now ≤ room_for self.new.table agent) }
+        ensures room { OnOk result (HasRoom self.new agent) }
+        ensures refused { IfErr result (λ fault. IsCause self.old.table agent subs.now fault) }
+    {
+        self.table.admit(agent, subs)?;
+        match self.reserve(agent) {
+            Err(_) => Err(SubFault::NoMemory),
+            Ok(()) => Ok(()),
+        }
+    }
+
+    /// Makes room for all slots of the table, and for all that the agent may have pending.
+    fn reserve(&mut self, agent: AgentNo) -> Result<(), AllocError>
+        ensures table { self.new.table ≡ self.old.table }
+        ensures same { IsRoomier self.old self.new }
+        ensures room { OnOk result (HasRoom self.new agent) }
+    {
+        let slots = self.table.slots();
+        reserve_lasts(&mut self.lasts, slots)?;
+        reserve_queue(&mut self.queues, agent.get(), slots)
+    }
+
+    fn subscribe_all(&mut self, agent: AgentNo, subs: &[Sub])
+        requires subscriptions { length subs.now ≤ room_for self.old.table agent }
+        requires room { HasRoom self.old agent }
+        ensures { Leads self.old (λ now. add_acts agent subs.now) self.new }
+    {
+        for sub in subs {
+            self.subscribe(agent, &sub.key);
+        }
+    }
+
     fn add(&mut self, agent: AgentNo, subs: &[Sub]) -> Reply<Record>
         requires { length subs.now ≤ 4096 }
-        ensures step { Adds self.old agent subs.now result self.new }
+        ensures { Adds self.old agent subs.now result self.new }
     {
-        let keys = slots::count_fresh(&self.slots, subs);
-        if self.slots.len() + keys > MOST_KEYS {
-            return Reply::TooManyKeys;
-        }
-        let pairs = count_fresh(&self.pairs, agent, subs);
-        if self.pairs.len() + pairs > MOST_PAIRS {
-            return Reply::TooManySubs;
-        }
-        match reserve(
-            &mut self.slots,
-            &mut self.pairs,
-            &mut self.queue,
-            subs.len(),
-        ) {
-            Err(_) => Reply::NoMemory,
+        match self.admit(agent, subs) {
+            Err(SubFault::TooManyKeys) => Reply::TooManyKeys,
+            Err(SubFault::TooManySubs) => Reply::TooManySubs,
+            Err(SubFault::NoMemory) => Reply::NoMemory,
             Ok(()) => {
-                add_subs(
-                    &mut self.slots,
-                    &mut self.pairs,
-                    &mut self.queue,
-                    agent,
-                    subs,
-                );
+                self.subscribe_all(agent, subs);
                 Reply::Done
             }
         }
     }
 
     fn remove_one(&mut self, agent: AgentNo, key: &Key)
-        ensures removed { self.new ≡ with_removal self.old agent key.now }
+        ensures { Leads self.old (λ now. ends_of agent now (key.now ∷ [])) self.new }
     {
-        let pair = (agent, *key);
-        if has_pair(&self.pairs, &pair) {
-            remove_pair(&mut self.pairs, &pair);
-            remove_pair(&mut self.queue, &pair);
-            drop_unused(&mut self.slots, &self.pairs, key);
+        if let Some(slot) = self.table.slot_of(key) {
+            if self.table.is_subscribed(agent, slot) {
+                self.end(agent, slot);
+            }
         }
     }
 
     fn remove(&mut self, agent: AgentNo, keys: &[Key])
-        ensures removed { self.new ≡ with_removals self.old agent keys.now }
+        ensures { Leads self.old (λ now. ends_of agent now keys.now) self.new }
     {
         for key in keys {
             self.remove_one(agent, key);
@@ -121,42 +186,40 @@ impl TickerStripe {
     }
 
     fn close(&mut self, agent: AgentNo)
-        ensures removed { self.new ≡ with_removals self.old agent (keys_for agent self.old.pairs) }
+        ensures { Leads self.old (λ now. map (Unsubscribed agent) (keys_of agent now) ++ Closed agent ∷ []) self.new }
     {
-        while let Some(key) = first_for(&self.pairs, agent) {
-            self.remove_one(agent, &key);
-        }
-    }
-
-    fn take_first(&mut self, agent: AgentNo) -> Option<Record>
-        ensures given { result ≡ gift_to agent self.old }
-        ensures left { self.new ≡ after_gift self.old agent (first_of agent self.old.queue) }
-    {
-        match first_for(&self.queue, agent) {
-            None => None,
-            Some(key) => {
-                let given = last_of(&self.slots, &key);
-                remove_pair(&mut self.queue, &(agent, key));
-                given
-            }
+        while let Some(slot) = self.table.first_slot(agent) {
+            self.end(agent, slot);
         }
     }
 
     fn take(&mut self, agent: AgentNo, most: u16, out: &mut Buffer<Record>)
         requires empty { out.old.items ≡ [] }
         requires room { most ≤ out.old.room }
-        ensures given { out.new ≡ with_items out.old (gifts_to most agent self.old) }
-        ensures left { self.new ≡ after_gifts most agent self.old }
+        ensures { Takes self.old agent most out.old out.new self.new }
     {
         for _i in 0..most {
-            let given = self.take_first(agent);
-            push_some(out, given);
+            match self.take_first(agent) {
+                None => return,
+                Some(latest) => out.push(latest),
+            }
         }
+    }
+
+    fn watch(&mut self, watcher: WatcherNo, most: u16, out: &mut Buffer<Want>)
+        requires empty { out.old.items ≡ [] }
+        requires room { most ≤ out.old.room }
+        ensures told { out.new ≡ with_items out.old (wants_for self.old.table watcher most) }
+        ensures left { IsTelling self.old watcher most self.new }
+    {
+        // A watcher's number is below 8, as the table's laws ask.
+        let _ = watcher.get();
+        self.table.watch(watcher, most, out);
     }
 
     fn apply(&mut self, op: Op<Record, Record>) -> Reply<Record>
         requires { MayAsk no_terms op }
-        ensures step { StepsTo self.old op result self.new }
+        ensures step { Answers self.old op result self.new }
     {
         match op {
             Op::Add { agent, subs } => self.add(agent, subs.as_slice()),
@@ -180,7 +243,14 @@ impl TickerStripe {
                 self.take(agent, max, &mut out);
                 Reply::Items(out)
             }
-            _ => unreachable!(),
+            Op::Watch {
+                watcher,
+                max,
+                mut out,
+            } => {
+                self.watch(watcher, max, &mut out);
+                Reply::Wants(out)
+            }
         }
     }
 

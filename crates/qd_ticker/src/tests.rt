@@ -3,20 +3,22 @@ ghost use Rattle.std.specs.Prelude.{◌≡◌, ◌≤◌, ◌+◌, length, IfOk}
 use crate::TickerStripe;
 use qd_buffer::Buffer;
 use qd_gate::Machine;
-use qd_scheme::{AgentNo, Cells, Key, Record, Sym};
-use qd_sub::{Op, Reply, Sub};
+use qd_scheme::{AgentNo, Cells, Key, Record, Sym, WatcherNo};
+use qd_sub::{Op, Reply, Sub, Want};
 use std::alloc::{AllocError, Global};
 use std::process::Abort;
 use std::test::Fail;
 
-/// A call, with what a Take is to give. Keys are letters, and a record has one cell.
+/// A call, with what a Take is to give, or what a Watch is to tell. Keys are letters, a record has one cell, and a total
+/// is there or not.
 #[derive(Clone, Copy)]
-enum Call<'a> {
+pub(crate) enum Call<'a> {
     Add(u8, &'a [u8]),
     Remove(u8, &'a [u8]),
     Close(u8),
     Put(&'a [(u8, i64)]),
     Take(u8, u16, &'a [(u8, i64)]),
+    Watch(u8, u16, &'a [(u8, bool)]),
 }
 
 fn key(rt: &impl Abort, letter: u8) -> Key {
@@ -79,6 +81,18 @@ fn subs(rt: &impl Abort, alloc: Global, letters: &[u8]) -> Result<Buffer<Sub>, A
     buffer(rt, alloc, items.as_slice())
 }
 
+fn wants(rt: &impl Abort, alloc: Global, list: &[(u8, bool)]) -> Result<Vec<Want>, AllocError> {
+    let mut items = Vec::new(alloc);
+    for one in list {
+        let total = if one.1 { Some(0) } else { None };
+        items.push(Want {
+            key: key(rt, one.0),
+            total,
+        })?;
+    }
+    Ok(items)
+}
+
 /// A call of any machine.
 fn turn<M: Machine>(machine: &mut M, op: M::Op) -> M::Reply
     requires { M.may_ask (M.terms machine.old) op }
@@ -87,7 +101,7 @@ fn turn<M: Machine>(machine: &mut M, op: M::Op) -> M::Reply
 }
 
 /// Makes a call, and compares its reply with the one that is wanted.
-fn make(
+pub(crate) fn make(
     rt: &impl Abort,
     alloc: Global,
     stripe: &mut TickerStripe,
@@ -116,6 +130,10 @@ fn make(
             let wanted = records(rt, alloc, list)?;
             return take(rt, alloc, stripe, number, max, wanted.as_slice());
         }
+        Call::Watch(number, max, list) => {
+            let wanted = wants(rt, alloc, list)?;
+            return watch(rt, alloc, stripe, number, max, wanted.as_slice());
+        }
     };
     assert!(rt; matches!(reply, Reply::Done));
     Ok(())
@@ -140,12 +158,31 @@ fn take(
     Ok(())
 }
 
+fn watch(
+    rt: &impl Abort,
+    alloc: Global,
+    stripe: &mut TickerStripe,
+    number: u8,
+    max: u16,
+    wanted: &[Want],
+) -> Result<(), AllocError> {
+    let watcher = WatcherNo::of(number).expect(rt, "a watcher");
+    let asked = max >= 1 && max <= 4096;
+    assert!(rt; asked);
+    let out = Buffer::with_room(alloc, max)?;
+    match turn(stripe, Op::Watch { watcher, max, out }) {
+        Reply::Wants(told) => assert_eq!(rt; told.as_slice(), wanted),
+        _ => panic!(rt; "no totals"),
+    }
+    Ok(())
+}
+
 #[test]
 fn a_take_gives_the_oldest_pending_keys_first_each_with_its_last_record(
     rt: HostRuntime,
 ) -> Result<(), Fail> {
     let alloc = rt.alloc();
-    let cases: [&[Call]; 7] = [
+    let cases: [&[Call]; 10] = [
         // What is put for a key without a subscribed agent is not kept.
         &[
             Call::Put(&[(b'A', 1)]),
@@ -204,6 +241,39 @@ fn a_take_gives_the_oldest_pending_keys_first_each_with_its_last_record(
             Call::Add(0, b"AB"),
             Call::Take(0, 10, &[(b'B', 4)]),
         ],
+        // A watcher is told each total once, and at the end of the last subscription that there is none.
+        &[
+            Call::Add(0, b"AB"),
+            Call::Watch(7, 1, &[(b'A', true)]),
+            Call::Watch(7, 10, &[(b'B', true)]),
+            Call::Watch(7, 10, &[]),
+            Call::Add(1, b"A"),
+            Call::Remove(0, b"A"),
+            Call::Watch(7, 10, &[]),
+            Call::Close(1),
+            Call::Watch(7, 10, &[(b'A', false)]),
+            Call::Watch(0, 10, &[(b'B', true)]),
+        ],
+        // A key that was dropped and is wanted again is told without a total first.
+        &[
+            Call::Add(0, b"A"),
+            Call::Watch(0, 10, &[(b'A', true)]),
+            Call::Remove(0, b"A"),
+            Call::Add(0, b"BA"),
+            Call::Watch(0, 10, &[(b'A', false), (b'B', true)]),
+            Call::Watch(0, 10, &[(b'A', true)]),
+            Call::Watch(0, 10, &[]),
+        ],
+        // A key that only a watcher knows of keeps no record.
+        &[
+            Call::Add(0, b"A"),
+            Call::Watch(0, 10, &[(b'A', true)]),
+            Call::Put(&[(b'A', 1)]),
+            Call::Close(0),
+            Call::Put(&[(b'A', 2)]),
+            Call::Add(0, b"A"),
+            Call::Take(0, 10, &[]),
+        ],
     ];
     for calls in cases {
         let mut stripe = TickerStripe::new(alloc)?;
@@ -211,5 +281,40 @@ fn a_take_gives_the_oldest_pending_keys_first_each_with_its_last_record(
             make(&rt, alloc, &mut stripe, *call)?;
         }
     }
+    Ok(())
+}
+
+/// Subscribes agent 0 to 4096 keys, from a record number on.
+fn fill(
+    rt: &impl Abort,
+    alloc: Global,
+    stripe: &mut TickerStripe,
+    from: u32,
+) -> Result<Reply<Record>, AllocError> {
+    let sym = key(rt, b'A').sym;
+    let mut items = Vec::new(alloc);
+    for rec in from..from.saturating_add(4096) {
+        items.push(Sub {
+            key: Key { rec, sym },
+            limit: 0,
+        })?;
+    }
+    let subs = buffer(rt, alloc, items.as_slice())?;
+    let agent = agent(rt, 0);
+    Ok(turn(stripe, Op::Add { agent, subs }))
+}
+
+#[test]
+fn a_stripe_is_full_with_16384_keys(rt: HostRuntime) -> Result<(), Fail> {
+    let alloc = rt.alloc();
+    let mut stripe = TickerStripe::new(alloc)?;
+    for part in 0..4u32 {
+        let reply = fill(&rt, alloc, &mut stripe, part * 4096)?;
+        assert!(rt; matches!(reply, Reply::Done));
+    }
+    let reply = fill(&rt, alloc, &mut stripe, 1)?;
+    assert!(rt; matches!(reply, Reply::Done));
+    let reply = fill(&rt, alloc, &mut stripe, 12_289)?;
+    assert!(rt; matches!(reply, Reply::TooManyKeys));
     Ok(())
 }

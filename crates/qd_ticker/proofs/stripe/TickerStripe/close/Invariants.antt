@@ -1,10 +1,12 @@
-use Rattle.std.proofs.Common.{◌≡◌, length}
-use Rattle.qd_ticker.specs.Pairs.{keys_for}
-use Rattle.qd_ticker.specs.Steps.{with_removals}
+use Rattle.std.proofs.Common.{length}
+use Rattle.qd_table.specs.Tables.{order_of}
+use Rattle.qd_ticker.specs.Pending.{TickerMoment}
+use Rattle.qd_ticker.specs.Stripes.{StandsAt}
+use Rattle.qd_ticker.proofs.WayLaws.{OnWay, close_lead}
 use Rattle.qd_ticker.proofs.stripe.TickerStripe.close.Given as goal
 
-abbrev pub invariant-loop-key : goal.invariant-loop-key
-invariant-loop-key l = with_removals l.self l.agent (keys_for l.agent l.self.pairs) ≡ with_removals l.initial.self l.agent (keys_for l.agent l.initial.self.pairs)
+abbrev pub invariant-loop-slot : goal.invariant-loop-slot
+invariant-loop-slot l = (now : TickerMoment) → StandsAt l.initial.self now → OnWay l.self (close_lead l.agent) (close_lead l.agent now)
 
-abbrev pub decreases-loop-key : goal.decreases-loop-key
-decreases-loop-key l = length l.self.pairs
+abbrev pub decreases-loop-slot : goal.decreases-loop-slot
+decreases-loop-slot l = length (order_of l.self.table l.agent)

@@ -1,10 +1,13 @@
-use Rattle.std.proofs.Common.{[]}
-use Rattle.qd_ticker.proofs.KeepLaws.{sound-empty, same-shown}
+use Rattle.qd_ticker.specs.Stripes.{Shown}
+use Rattle.qd_ticker.proofs.SoundLaws.{sound-empty}
+use Rattle.qd_ticker.proofs.StandLaws.{StandsAt-empty}
 use Rattle.qd_ticker.proofs.StepLaws.{Stands-empty}
 use Rattle.qd_ticker.proofs.stripe.TickerStripe.new.Goals as goal
 
 pub invariant_of-result : goal.invariant_of-result
-invariant_of-result c = sound-empty _ _ _ _ c.new.ensures.items c.new-2.ensures.items c.new-3.ensures.items
+invariant_of-result c = sound-empty c.in_ok-table.table c.new-2.result.items c.in_ok-queues.queues.items c.in_ok-table.ensures c.in_ok-queues.ensures
 
 pub returns : goal.returns
-returns c = Stands-empty _ (same-shown c.new.result.items [] c.new-2.result.items [] c.new-3.result.items [] c.new.ensures.items c.new-2.ensures.items c.new-3.ensures.items)
+returns c =
+    let s : Shown = record { table = c.in_ok-table.table; lasts = c.new-2.result.items; queues = c.in_ok-queues.queues.items } in
+    Stands-empty s (StandsAt-empty s c.in_ok-table.ensures c.new-2.ensures.items c.in_ok-queues.ensures)
