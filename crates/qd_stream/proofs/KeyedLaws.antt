@@ -1,7 +1,6 @@
 -- What the calls of an outbox do to what is owed by keys.
 use Rattle.std.proofs.Common.{◌≡◌, ℕ, ◌+◌, ◌≤◌, Bool, true, false, ◌||◌, if◌then◌else◌, nat_eq, nat_lt, List, [], ◌∷◌, ◌++◌, length, map, drop, refl, ap, sym, ◌∙◌, subst, arith}
 use Rattle.std.specs.Prelude.{min, All}
-use Rattle.std.proofs.Math.Nat.{min-eq_left}
 use Rattle.std.proofs.lemmas.List.Elements.{All-head, All-tail, All-cons, All-push}
 use Rattle.qd_scheme.specs.declared.key.Key.{Key}
 use Rattle.qd_scheme.specs.Keys.{key_eq}
@@ -51,21 +50,21 @@ module _ (name : ℕ → Key) (used : ℕ → Bool) (apart : (s t : ℕ) → use
   abbrev with_key : List Loss → Key → ℕ → List Loss
   with_key lost k more = if is_lost lost k then map (raised k more) lost else lost ++ record { key = k; count = min more 18446744073709551615 } ∷ []
 
-  key-named : (lost : List SlotLoss) (slot more : ℕ) → used slot ≡ true → more ≤ 18446744073709551615 → All (λ l. used l.slot ≡ true) lost → map (named name) (with_lost lost slot more) ≡ with_key (map (named name) lost) (name slot) more
+  key-named : (lost : List SlotLoss) (slot more : ℕ) → used slot ≡ true → All (λ l. used l.slot ≡ true) lost → map (named name) (with_lost lost slot more) ≡ with_key (map (named name) lost) (name slot) more
   unfolding with_lost
-  key-named lost slot more u small all =
+  key-named lost slot more u all =
       let there = lost-named lost slot u all in
-      let go : (c : Bool) → has_lost lost slot ≡ c → map (named name) (if c then map (boxes.raised slot more) lost else lost ++ record { slot = slot; count = more } ∷ []) ≡ (if c then map (raised (name slot) more) (map (named name) lost) else map (named name) lost ++ record { key = name slot; count = min more 18446744073709551615 } ∷ []) =
+      let go : (c : Bool) → has_lost lost slot ≡ c → map (named name) (if c then map (boxes.raised slot more) lost else lost ++ record { slot = slot; count = min more 18446744073709551615 } ∷ []) ≡ (if c then map (raised (name slot) more) (map (named name) lost) else map (named name) lost ++ record { key = name slot; count = min more 18446744073709551615 } ∷ []) =
       elim [
         | true ↦ λ e. raised-named lost slot more u all
-        | false ↦ λ e. (let same = min-eq_left small in lost-end lost (record { slot = slot; count = more }) ∙ (λ i. map (named name) lost ++ record { key = name slot; count = sym same i } ∷ []))
+        | false ↦ λ e. lost-end lost (record { slot = slot; count = min more 18446744073709551615 })
       ] in
       go (has_lost lost slot) refl ∙ ap (λ b. if b then map (raised (name slot) more) (map (named name) lost) else map (named name) lost ++ record { key = name slot; count = min more 18446744073709551615 } ∷ []) (sym there)
 
   -- an item more is lost
   loss-named : (lost : List SlotLoss) (w : Waiting) → IsLabelled name used w → All (λ l. used l.slot ≡ true) lost → map (named name) (with_lost lost w.slot (weight w.item)) ≡ with_loss (map (named name) lost) w.item
   unfolding with_loss
-  loss-named lost w label all = key-named lost w.slot (weight w.item) label.1 label.2 all ∙ ap (λ k. with_key (map (named name) lost) k (weight w.item)) (sym label.0)
+  loss-named lost w label all = key-named lost w.slot (weight w.item) label.1 all ∙ ap (λ k. with_key (map (named name) lost) k (weight w.item)) (sym label.0)
 
   first-named : (lost : List SlotLoss) (ws : List Waiting) → All (IsLabelled name used) ws → All (λ l. used l.slot ≡ true) lost → map (named name) (boxes.with_first_lost lost ws) ≡ with_first_lost (map (named name) lost) (map (λ (v : Waiting). v.item) ws)
   first-named lost [] labels all = refl

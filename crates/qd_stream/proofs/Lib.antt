@@ -5,3 +5,15 @@ pub mod OwedLaws
 pub mod OutboxLaws
 pub mod KeyedLaws
 pub mod Rows
+pub mod BoxLaws
+pub mod WalkLaws
+pub mod ReadyLaws
+pub mod CapLaws
+pub mod NamedLaws
+pub mod AgreeLaws
+pub mod BegunLaws
+pub mod HeldLaws
+pub mod StripeLaws
+pub mod KeyedLogs
+pub mod StepLaws
+pub mod StartLaws

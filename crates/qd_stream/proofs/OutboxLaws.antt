@@ -1,6 +1,7 @@
 -- What the calls of an outbox do to its counts and its losses.
 use Rattle.std.proofs.Common.{◌≡◌, ℕ, suc, zero, ◌+◌, ◌-◌, ◌<◌, ◌≤◌, Bool, true, false, ◌||◌, if◌then◌else◌, nat_eq, nat_lt, List, [], ◌∷◌, ◌++◌, length, map, replicate, refl, ap, sym, ◌∙◌, subst, arith, length-set, length-append}
 use Rattle.std.specs.Prelude.{min, slice_index, slice_set, slice_get, Option, Some, None, drop}
+use Rattle.std.proofs.Math.Nat.{min-eq_left}
 use Rattle.std.proofs.lemmas.Bool.Decides.{nat_tests}
 use Rattle.std.proofs.lemmas.Bool.{eqb-true}
 use Rattle.std.proofs.lemmas.List.{get_or-set_same, get_or-set_other}
@@ -158,11 +159,11 @@ unfolding with_lost
 lose-more losses list slot more h below = let there : has_lost (lost_by losses list) slot ≡ true = lost-has losses list slot ∙ h in rw there (lost-set losses list slot more below)
 
 -- a slot loses for the first time
-pub lose-new : (losses list : List ℕ) (slot more : ℕ) → has list slot ≡ false → slot < length losses → lost_by (slice_set losses slot more) (list ++ slot ∷ []) ≡ with_lost (lost_by losses list) slot more
+pub lose-new : (losses list : List ℕ) (slot more : ℕ) → has list slot ≡ false → slot < length losses → more ≤ 18446744073709551615 → lost_by (slice_set losses slot more) (list ++ slot ∷ []) ≡ with_lost (lost_by losses list) slot more
 unfolding with_lost
-lose-new losses list slot more h below =
+lose-new losses list slot more h below small =
     let there : has_lost (lost_by losses list) slot ≡ false = lost-has losses list slot ∙ h in
-    let count : slice_index (slice_set losses slot more) slot ≡ more = get_or-set_same losses slot more 0 below in
+    let count : slice_index (slice_set losses slot more) slot ≡ min more 18446744073709551615 = get_or-set_same losses slot more 0 below ∙ sym (min-eq_left small) in
     rw there (lost-end (slice_set losses slot more) list slot ∙ (λ i. lost-set_other losses list slot more h i ++ record { slot = slot; count = count i } ∷ []))
 
 -- the first loss, and the other ones

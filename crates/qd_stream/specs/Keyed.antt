@@ -1,10 +1,10 @@
 -- How what an outbox holds by slots is what an agent is owed by keys.
-use Rattle.std.specs.Prelude.{ℕ, ◌≡◌, ◌≤◌, Bool, true, nat_eq, List, map, All}
+use Rattle.std.specs.Prelude.{ℕ, ◌≡◌, Bool, true, nat_eq, List, map, All}
 use Rattle.qd_scheme.specs.declared.key.Key.{Key}
 use Rattle.qd_scheme.specs.Keys.{key_eq}
 use Rattle.qd_stream.specs.declared.outbox.Waiting.{Waiting}
 use Rattle.qd_stream.specs.declared.outbox.SlotLoss.{SlotLoss}
-use Rattle.qd_stream.specs.Items.{key_of_item, weight}
+use Rattle.qd_stream.specs.Items.{key_of_item}
 use Rattle.qd_stream.specs.Owed.{Loss, Owed}
 use Rattle.qd_stream.specs.Outboxes.{Outstanding}
 
@@ -16,9 +16,9 @@ named name l = record { key = name l.slot; count = l.count }
 unfoldable pub keyed : (ℕ → Key) → Outstanding → Owed
 keyed name o = record { items = map (λ w. w.item) o.items; lost = map (named name) o.lost }
 
--- the item is of its slot's key, the slot is in use, and the item stands for at most 2^64 - 1 records
+-- the item is of its slot's key, and the slot is in use
 abbrev pub IsLabelled : (ℕ → Key) → (ℕ → Bool) → Waiting → Type 0
-IsLabelled name used w = (key_of_item w.item ≡ name w.slot) × (used w.slot ≡ true) × (weight w.item ≤ 18446744073709551615)
+IsLabelled name used w = (key_of_item w.item ≡ name w.slot) × (used w.slot ≡ true)
 
 -- each item is labelled, each loss is of a slot in use, and different slots in use have different keys
 pub record IsNamed (name : ℕ → Key) (used : ℕ → Bool) (o : Outstanding) : Type 0 where

@@ -8,3 +8,6 @@ pub mod Asking
 pub mod Owed
 pub mod Outboxes
 pub mod Keyed
+pub mod Boxes
+pub mod Stripes
+pub mod Steps

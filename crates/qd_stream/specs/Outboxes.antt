@@ -27,10 +27,10 @@ has_lost lost slot = list_any (λ l. nat_eq slot l.slot) lost
 abbrev pub raised : ℕ → ℕ → SlotLoss → SlotLoss
 raised slot more l = if nat_eq slot l.slot then record { slot = l.slot; count = min (l.count + more) 18446744073709551615 } else l
 
--- with so many more lost of the slot
+-- with so many more lost of the slot, at most 2^64 - 1 in all
 unfoldable pub with_lost : List SlotLoss → ℕ → ℕ → List SlotLoss
 with_lost lost slot more =
-    if has_lost lost slot then map (raised slot more) lost else lost ++ record { slot = slot; count = more } ∷ []
+    if has_lost lost slot then map (raised slot more) lost else lost ++ record { slot = slot; count = min more 18446744073709551615 } ∷ []
 
 -- with the first of these lost
 abbrev pub with_first_lost : List SlotLoss → List Waiting → List SlotLoss

@@ -3,7 +3,7 @@ ghost use Rattle.std.specs.Prelude.{◌≡◌};
 use qd_scheme::{Key, Keyed, Record};
 
 /// A record, or a count of lost records of a key.
-#[derive(Clone, Copy, Debug)]
+#[derive(Clone, Copy, Debug, PartialEq, Eq)]
 pub enum StreamItem {
     Rec(Record),
     /// The count is positive.

@@ -12,4 +12,4 @@ returns-then-contains-clause-lost c =
 pub returns-else-contains-clause-lost : goal.returns-else-contains-clause-lost
 returns-else-contains-clause-lost c =
     ap (λ q. lost_by (slice_set c.args.losses.now.items c.args.slot c.args.more) q.list) c.push_back.ensures
-    ∙ lose-new c.args.losses.now.items c.args.lossy.now.list c.args.slot c.args.more (sym c.contains.ensures ∙ c.if-contains.false) (omega arith)
+    ∙ lose-new c.args.losses.now.items c.args.lossy.now.list c.args.slot c.args.more (sym c.contains.ensures ∙ c.if-contains.false) (omega arith) (omega arith)
