@@ -65,6 +65,209 @@ fn a_snapshot_and_an_update_of_two_events(rt: HostRuntime) -> Result<(), Fail> {
     Ok(())
 }
 
+/// An event by its index, flags and value, with the answer to it, and then the events of the commit and how many are kept and held.
+type Step = (u64, u8, i64, Ingest, usize, u32, u32);
+
+/// Events with the floor and the map that they leave, its entries falling.
+type Case = (&'static [Step], Option<(u64, bool)>, &'static [(u64, i64)]);
+
+/// The entries that a state tells from the greatest index down.
+fn check_falling(rt: &impl Abort, state: &KeyState, entries: &[(u64, i64)]) {
+    let mut at = u64::MAX;
+    let mut none_below = false;
+    for entry in entries {
+        assert!(rt; !none_below);
+        assert_eq!(rt; told(state.sweep_from(at)), Some(*entry));
+        none_below = entry.0 == 0;
+        at = entry.0.saturating_sub(1);
+    }
+    if !none_below {
+        assert_eq!(rt; told(state.sweep_from(at)), None);
+    }
+}
+
+/// Feeds the events of each case to a state of its own.
+fn judge(rt: &impl Abort, alloc: Global, cases: &[Case]) -> Result<(), Fail> {
+    for (steps, floor, entries) in cases {
+        let mut state = KeyState::new(alloc)?;
+        for (index, flags, value, answer, batch, kept, held) in *steps {
+            let e = event(*index, *flags, *value).ok_or("no event")?;
+            state.reserve(1)?;
+            assert_eq!(rt; state.ingest(&e), *answer);
+            assert_eq!(rt; state.batch().len(), *batch);
+            assert_eq!(rt; state.kept(), *kept);
+            assert_eq!(rt; state.held(), *held);
+        }
+        assert_eq!(rt; state.floor(), *floor);
+        let snipped = match *floor {
+            Some((index, true)) => Some(index),
+            _ => None,
+        };
+        assert_eq!(rt; state.snipped_to(), snipped);
+        check_falling(rt, &state, entries);
+    }
+    Ok(())
+}
+
+#[test]
+fn a_snapshot_ends_at_its_floor(rt: HostRuntime) -> Result<(), Fail> {
+    let cases: [Case; 7] = [
+        // An empty snapshot in one event, and one that was never begun.
+        (
+            &[(0, 14, 0, Ingest::Snapshot, 1, 0, 0)],
+            Some((0, false)),
+            &[],
+        ),
+        (
+            &[
+                (50, 0, 1, Ingest::Ignored, 0, 0, 0),
+                (0, 10, 0, Ingest::Ignored, 0, 0, 0),
+            ],
+            None,
+            &[],
+        ),
+        (
+            &[
+                (30, 4, 3, Ingest::Held, 0, 0, 1),
+                (20, 0, 2, Ingest::Held, 0, 0, 2),
+                (10, 0, 1, Ingest::Held, 0, 0, 3),
+                (0, 10, 0, Ingest::Snapshot, 4, 3, 0),
+            ],
+            Some((0, false)),
+            &[(30, 3), (20, 2), (10, 1)],
+        ),
+        // The end goes on with a transaction.
+        (
+            &[
+                (30, 4, 3, Ingest::Held, 0, 0, 1),
+                (0, 11, 0, Ingest::Held, 0, 0, 2),
+                (40, 0, 4, Ingest::Snapshot, 3, 2, 0),
+            ],
+            Some((0, false)),
+            &[(40, 4), (30, 3)],
+        ),
+        // A snipped one, below whose floor an update shows nothing.
+        (
+            &[
+                (30, 4, 3, Ingest::Held, 0, 0, 1),
+                (25, 16, 2, Ingest::Snapshot, 2, 2, 0),
+                (10, 0, 9, Ingest::Update, 1, 2, 0),
+            ],
+            Some((25, true)),
+            &[(30, 3), (25, 2)],
+        ),
+        // A second snapshot takes the place of the first.
+        (
+            &[
+                (30, 4, 3, Ingest::Held, 0, 0, 1),
+                (20, 8, 2, Ingest::Snapshot, 2, 2, 0),
+                (30, 4, 3, Ingest::Held, 0, 2, 1),
+                (20, 0, 2, Ingest::Held, 0, 2, 2),
+                (0, 10, 0, Ingest::Snapshot, 3, 2, 0),
+            ],
+            Some((0, false)),
+            &[(30, 3), (20, 2)],
+        ),
+        // A second BEGIN lets go of what was held back.
+        (
+            &[
+                (50, 4, 9, Ingest::Held, 0, 0, 1),
+                (40, 0, 9, Ingest::Held, 0, 0, 2),
+                (30, 4, 3, Ingest::Held, 0, 0, 1),
+                (20, 8, 2, Ingest::Snapshot, 2, 2, 0),
+            ],
+            Some((20, false)),
+            &[(30, 3), (20, 2)],
+        ),
+    ];
+    judge(&rt, rt.alloc(), &cases)
+}
+
+/// A snapshot of three entries.
+const BEGUN: [Step; 4] = [
+    (30, 4, 3, Ingest::Held, 0, 0, 1),
+    (20, 0, 2, Ingest::Held, 0, 0, 2),
+    (10, 0, 1, Ingest::Held, 0, 0, 3),
+    (0, 10, 0, Ingest::Snapshot, 4, 3, 0),
+];
+
+#[test]
+fn updates_come_as_whole_transactions(rt: HostRuntime) -> Result<(), Fail> {
+    let cases: [(&[Step], &[(u64, i64)]); 7] = [
+        (
+            &[
+                (30, 1, 4, Ingest::Held, 0, 3, 1),
+                (20, 0, 5, Ingest::Update, 2, 3, 0),
+            ],
+            &[(30, 4), (20, 5), (10, 1)],
+        ),
+        (
+            &[
+                (30, 1, 4, Ingest::Held, 0, 3, 1),
+                (20, 1, 5, Ingest::Held, 0, 3, 2),
+                (25, 0, 6, Ingest::Update, 3, 4, 0),
+            ],
+            &[(30, 4), (25, 6), (20, 5), (10, 1)],
+        ),
+        (
+            &[
+                (30, 1, 4, Ingest::Held, 0, 3, 1),
+                (10, 0, 9, Ingest::Update, 2, 3, 0),
+            ],
+            &[(30, 4), (20, 2), (10, 9)],
+        ),
+        // An index is taken out, and one that is not there.
+        (
+            &[
+                (20, 2, 0, Ingest::Update, 1, 2, 0),
+                (25, 2, 0, Ingest::Update, 1, 2, 0),
+            ],
+            &[(30, 3), (10, 1)],
+        ),
+        // It is put in and taken out in one transaction.
+        (
+            &[
+                (40, 1, 7, Ingest::Held, 0, 3, 1),
+                (40, 2, 0, Ingest::Update, 2, 3, 0),
+            ],
+            &[(30, 3), (20, 2), (10, 1)],
+        ),
+        // An end without a BEGIN is an update, and moves no floor.
+        (
+            &[
+                (20, 8, 6, Ingest::Update, 1, 3, 0),
+                (5, 16, 8, Ingest::Update, 1, 4, 0),
+            ],
+            &[(30, 3), (20, 6), (10, 1), (5, 8)],
+        ),
+        // A new snapshot shows nothing before its end.
+        (
+            &[
+                (60, 4, 1, Ingest::Held, 0, 3, 1),
+                (50, 0, 2, Ingest::Held, 0, 3, 2),
+            ],
+            &[(30, 3), (20, 2), (10, 1)],
+        ),
+    ];
+    for (steps, entries) in cases {
+        let mut state = KeyState::new(rt.alloc())?;
+        for part in [BEGUN.as_slice(), steps] {
+            for (index, flags, value, answer, batch, kept, held) in part {
+                let e = event(*index, *flags, *value).ok_or("no event")?;
+                state.reserve(1)?;
+                assert_eq!(rt; state.ingest(&e), *answer);
+                assert_eq!(rt; state.batch().len(), *batch);
+                assert_eq!(rt; state.kept(), *kept);
+                assert_eq!(rt; state.held(), *held);
+            }
+        }
+        assert_eq!(rt; state.floor(), Some((0, false)));
+        assert_eq!(rt; state.width(), Some(5));
+        check_falling(&rt, &state, entries);
+    }
+    Ok(())
+}
+
 /// The next number of a linear congruence, below a bound.
 fn draw(state: &mut u64, below: u64) -> u64 {
     *state = state

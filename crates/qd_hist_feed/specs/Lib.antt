@@ -1,0 +1,4 @@
+pub mod Feeding
+pub mod Inside
+pub mod Stands
+pub mod Laws

@@ -1,0 +1,15 @@
+pub mod Rows
+pub mod ActFacts
+pub mod Numbers
+pub mod Begun
+pub mod OneLog
+pub mod Passed
+pub mod Serve
+pub mod Shares
+pub mod AllFit
+pub mod EndedFit
+pub mod SnapshotItems
+pub mod LegalLogs
+pub mod LastCommits
+pub mod DueKeys
+pub mod DueOrder

@@ -1,0 +1,10 @@
+pub mod Moments
+pub mod Source
+pub mod Agent
+pub mod Standing
+pub mod Lawful
+pub mod Takes
+pub mod Legal
+pub mod Asking
+pub mod Laws
+pub mod Snapshots
