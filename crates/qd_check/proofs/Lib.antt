@@ -1,0 +1,4 @@
+pub mod CheckLaws
+pub mod FmtLaws
+mod Rows
+pub mod RunLaws

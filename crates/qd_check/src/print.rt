@@ -1,0 +1,111 @@
+//! `fmt`: the canonical line of each item.
+
+ghost use Rattle.std.specs.Prelude.{◌≡◌, ◌++◌, ◌∷◌, [], true};
+ghost use Rattle.qd_check.specs.Counting.{PrintsEnd, PrintsLines};
+ghost use Rattle.qd_check.specs.Printing.{end_line, fmt_text, line_of};
+ghost use Rattle.qd_check.specs.Runs.{IsDecided, IsFlushed, Runs};
+ghost use Rattle.qd_grammar.specs.declared.item.Mode.TheVariants.{File};
+ghost use Rattle.qd_items.specs.Standing.{opening};
+ghost use Rattle.qd_outside.specs.Buffering.{Prints};
+
+use crate::finish::finish;
+use qd_decimal::Line;
+use qd_items::{Items, RunEnd, TextEnd};
+use qd_outside::{OutBuffer, Sink, Source};
+use qd_scheme::Scheme;
+use qd_text::{Item, Mode, write_item};
+use std::alloc::Global;
+
+/// Prints the canonical line of each item of a text as it is read, END's line last. At an end before END the lines before
+/// it stand written.
+pub fn fmt<S: Source, K: Sink>(
+    alloc: Global,
+    scheme: &Scheme,
+    source: &mut S,
+    sink: &mut K,
+) -> RunEnd
+    ensures runs { Runs (fmt_text scheme.now) scheme.now (record { left = S.left source.old; reads = S.faults source.old; written = K.written sink.old; writes = K.faults sink.old })
+        result (record { left = S.left source.new; reads = S.faults source.new; written = K.written sink.new; writes = K.faults sink.new }) }
+    ensures flushed { IsFlushed result (K.flushed sink.new) }
+    ensures decided { IsDecided (fmt_text scheme.now) scheme.now (record { left = S.left source.old; reads = S.faults source.old; written = K.written sink.old; writes = K.faults sink.old })
+        result (record { left = S.left source.new; reads = S.faults source.new; written = K.written sink.new; writes = K.faults sink.new }) }
+    ensures kept { S.kept source.new ≡ S.kept source.old }
+{
+    let mut items = match Items::new(alloc, Mode::File) {
+        Err(_) => return RunEnd::NoMemory,
+        Ok(items) => items,
+    };
+    let mut out = OutBuffer::new(alloc);
+    match print_lines(scheme, &mut items, &mut out, source, sink) {
+        None => RunEnd::WriteFault,
+        Some(end) => finish(&mut out, sink, end),
+    }
+}
+
+/// Prints the lines up to the end. None where a write failed.
+fn print_lines<S: Source, K: Sink>(
+    scheme: &Scheme,
+    items: &mut Items,
+    out: &mut OutBuffer,
+    source: &mut S,
+    sink: &mut K,
+) -> Option<TextEnd>
+    requires items { items.old ≡ opening File }
+    requires out { out.old ≡ [] }
+    ensures prints { PrintsLines scheme.now (record { left = S.left source.old; reads = S.faults source.old; written = K.written sink.old; writes = K.faults sink.old })
+        result out.new (record { left = S.left source.new; reads = S.faults source.new; written = K.written sink.new; writes = K.faults sink.new }) }
+    ensures kept { S.kept source.new ≡ S.kept source.old }
+{
+    let mut line = Line::new();
+    'items: loop {
+        match items.advance(scheme, source) {
+            None => {
+                if !print_item(scheme, items.item(), &mut line, out, sink) {
+                    return None;
+                }
+            }
+            Some(end) => return print_end(scheme, end, &mut line, out, sink),
+        }
+    }
+}
+
+/// Prints END's line at the end of a whole text. None where a write failed.
+fn print_end<K: Sink>(
+    scheme: &Scheme,
+    end: TextEnd,
+    line: &mut Line,
+    out: &mut OutBuffer,
+    sink: &mut K,
+) -> Option<TextEnd>
+    ensures { PrintsEnd (end_line scheme.now end) end result out.old out.new (K.written sink.old) (K.written sink.new) (K.faults sink.old) (K.faults sink.new) }
+{
+    if let TextEnd::End = end {
+        if !print_item(scheme, &Item::End, line, out, sink) {
+            return None;
+        }
+    }
+    Some(end)
+}
+
+/// Prints the line of an item.
+fn print_item<K: Sink>(
+    scheme: &Scheme,
+    item: &Item,
+    line: &mut Line,
+    out: &mut OutBuffer,
+    sink: &mut K,
+) -> bool
+    ensures { Prints result (line_of scheme.now item.now) out.old out.new (K.written sink.old) (K.written sink.new) (K.faults sink.old) (K.faults sink.new) }
+{
+    set_line(scheme, item, line);
+    out.print(sink, line.bytes())
+}
+
+/// Writes the line of an item in place of the one before.
+fn set_line(scheme: &Scheme, item: &Item, line: &mut Line)
+    ensures { line.new ≡ line_of scheme.now item.now }
+{
+    line.clear();
+    write_item(scheme, item, line);
+    line.push(b'\n');
+}

@@ -1,0 +1,5 @@
+pub mod Counts
+pub mod DecidingLaws
+pub mod EveryText
+pub mod LineOrder
+pub mod StepLaws

@@ -1,0 +1,35 @@
+-- What the answer of a line gives, and what the code tells of it.
+use Rattle.std.specs.Prelude.{ℕ, ◌≡◌, false, Option, Some, None, Result, Ok, Err}
+use Rattle.qd_grammar.specs.declared.fault.Fault.{Fault}
+use Rattle.qd_grammar.specs.declared.item.Item.{Item}
+use Rattle.qd_grammar.specs.declared.item.Item.TheVariants as items
+use Rattle.qd_items.specs.declared.ends.TextEnd.{TextEnd}
+use Rattle.qd_items.specs.declared.ends.TextEnd.TheVariants.{End, CutOff, Bad, LineTooLong, TooMuch, ReadFault, NoMemory}
+use Rattle.qd_items.specs.declared.items.Next.{Next}
+use Rattle.qd_items.specs.declared.items.Next.TheVariants as nexts
+use Rattle.qd_items.specs.declared.items.Turn.{Turn}
+use Rattle.qd_items.specs.declared.items.Turn.TheVariants as turns
+use Rattle.qd_items.specs.Judging.{is_end}
+
+-- nothing where the line of this number is skipped; the end where it spells END or has a fault; else its item
+abbrev pub Gives : Result (Option Item) Fault → ℕ → Option Next → Type 0
+Gives said line None = said ≡ Ok None
+Gives said line (Some (nexts.Item item)) = (said ≡ Ok (Some item)) × (is_end item ≡ false)
+Gives said line (Some (nexts.Ended End)) = said ≡ Ok (Some items.End)
+Gives said line (Some (nexts.Ended (Bad bad))) = (said ≡ Err (record { place = bad.place; why = bad.why })) × (bad.line ≡ line)
+Gives said line (Some (nexts.Ended (LineTooLong n))) = ⊥
+Gives said line (Some (nexts.Ended (CutOff n))) = ⊥
+Gives said line (Some (nexts.Ended TooMuch)) = ⊥
+Gives said line (Some (nexts.Ended ReadFault)) = ⊥
+Gives said line (Some (nexts.Ended NoMemory)) = ⊥
+
+-- what comes next, where the item that came last is this one
+abbrev pub came : Option TextEnd → Item → Next
+came None item = nexts.Item item
+came (Some end) item = nexts.Ended end
+
+-- the same of a step; None where it went on
+abbrev pub told : Turn → Item → Option Next
+told turns.Went item = None
+told turns.Came item = Some (nexts.Item item)
+told (turns.Ended end) item = Some (nexts.Ended end)
