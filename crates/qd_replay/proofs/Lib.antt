@@ -1,0 +1,6 @@
+pub mod Texts
+pub mod Prints
+pub mod Halts
+pub mod Runs
+pub mod DecidingLaws
+mod Rows

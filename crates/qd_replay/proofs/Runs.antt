@@ -1,0 +1,384 @@
+-- A run goes from item to item, and ends.
+use Rattle.std.proofs.Common.{ℕ, ◌≡◌, ◌+◌, ◌<◌, ◌≤◌, ◌⊎◌, inl, inr, Bool, true, false, nat_eq, Option, Some, None, List, [], ◌∷◌, ◌++◌, length, refl, sym, ◌∙◌, ap, append_assoc, length-append, arith, cond}
+use Rattle.std.proofs.lemmas.List.{append-nil}
+use Rattle.std.proofs.lemmas.Bool.Decides.{nat_tests}
+use Rattle.std.proofs.lemmas.Bool.{eqb-false}
+use Rattle.qd_grammar.specs.declared.item.Item.{Item}
+use Rattle.qd_grammar.specs.declared.item.Item.TheVariants as items
+use Rattle.qd_grammar.specs.declared.item.Message.{Message}
+use Rattle.qd_grammar.specs.declared.item.Mode.TheVariants.{File}
+use Rattle.qd_items.specs.declared.ends.RunEnd.{RunEnd}
+use Rattle.qd_items.specs.declared.ends.RunEnd.TheVariants as ends
+use Rattle.qd_items.specs.declared.ends.TextEnd.{TextEnd}
+use Rattle.qd_items.specs.declared.ends.TextEnd.TheVariants as texts
+use Rattle.qd_items.specs.declared.items.Next.TheVariants as nexts
+use Rattle.qd_items.specs.Ends.{Cause, ComesNext, last_items}
+use Rattle.qd_items.specs.Judging.{Numbered, items_of, Stop, stop_of, is_end}
+use Rattle.qd_items.specs.Judging.Stop.{Open, AtEnd}
+use Rattle.qd_items.specs.Runs.{run_end}
+use Rattle.qd_items.specs.Standing.{Kept, Past, IsTaken, IsRead, nothing, opening}
+use Rattle.qd_items.proofs.StepLaws.{opening_read}
+use Rattle.qd_outside.specs.Causes.{Rose}
+use Rattle.qd_outside.specs.Reading.{Took}
+use Rattle.qd_outside.specs.Writing.{IsWritten, IsCutShort}
+use Rattle.qd_outside.proofs.Streams.{Gained-none, Gained-more, Took-none}
+use Rattle.qd_scheme.specs.declared.defs.RecordDef.{RecordDef}
+use Rattle.qd_scheme.specs.declared.key.Key.{Key}
+use Rattle.qd_sub.specs.declared.sub.Sub.{Sub}
+use Rattle.qd_replay.specs.declared.engine.Kind.{Kind}
+use Rattle.qd_replay.specs.declared.engine.Kind.TheVariants.{Body, Description, Control}
+use Rattle.qd_replay.specs.declared.stripes.Stripes.{Stripes}
+use Rattle.qd_replay.specs.Calls.{Act}
+use Rattle.qd_replay.specs.Ends.{Outside, sunk, stop_at, IsCaused, IsEnded, IsRunning, Ends, IsFlushed, Finishes, LastBy}
+use Rattle.qd_replay.specs.Running.{Logs, Stand, no_logs}
+use Rattle.qd_replay.specs.Scripts.{Script, Group, start, size, plain_sub, no_group, is_full, is_adding, group_with, kind_of, after as after_item, after_kind, joined_by, led_by, script_of, acts_with, acts_of, goes_on, AreOpen}
+use Rattle.qd_replay.specs.Steps.{Kept as EngineKept, Sunk, IsShown, IsAt, Halts, Hears, Stops, is_write_fault, ToldBy}
+use Rattle.qd_replay.proofs.Halts.{shown_cut}
+
+-- a body line adds one line at most
+key_few : (adding : Bool) (s : Sub) (k : Key) (g : Group)
+    → size (cond adding (record { subs = g.subs ++ s ∷ []; keys = g.keys; records = g.records }) (record { subs = g.subs; keys = g.keys ++ k ∷ []; records = g.records })) ≤ size g + 1
+key_few true s k g = let n = length-append g.subs (s ∷ []) in omega (arith, n)
+key_few false s k g = let n = length-append g.keys (k ∷ []) in omega (arith, n)
+
+group_few : (message : Option Message) (item : Item) (g : Group) → size (group_with message item g) ≤ size g + 1
+group_few message (items.Rec r) g = let n = length-append g.records (r ∷ []) in omega (arith, n)
+group_few message (items.Sub k) g = key_few (is_adding message) (plain_sub k) k g
+group_few message _ g = omega arith
+
+called_few : (g : Group) (full : Bool) → nat_eq (size g) 4096 ≡ full → size g ≤ 4096 → size (cond full no_group g) < 4096
+called_few g true e h = omega arith
+called_few g false e h = let n = eqb-false (size g) 4096 e in omega (arith, n)
+
+led_few : (item : Item) (message : Option Message) (link : ℕ) → size (led_by item message link).group < 4096
+led_few (items.Head m) message link = omega arith
+led_few (items.Link n) message link = omega arith
+led_few _ message link = omega arith
+
+kind_few : (kind : Kind) (item : Item) (s : Script) → size s.group < 4096 → size (after_kind kind item s).group < 4096
+kind_few Body item s h = let n = group_few s.message item s.group in called_few (group_with s.message item s.group) (is_full (group_with s.message item s.group)) refl (omega (arith, n))
+kind_few Description item s h = h
+kind_few Control item s h = led_few item s.message s.link
+
+-- an open group has fewer than 4096 lines
+pub script_few : (ns : List Numbered) → size (script_of ns).group < 4096
+script_few [] = omega arith
+script_few (n ∷ before) = kind_few (kind_of n.item) n.item (script_of before) (script_few before)
+
+-- before anything
+pub opens : (defs : List RecordDef) (o : Outside) (k : Kept) (e : EngineKept) (s : Stripes) → k ≡ opening File → e ≡ record { script = start; held = [] } → Stand s no_logs → IsRunning defs o k e s o
+opens defs o k e s i b h = record {
+  past = nothing;
+  read = rw i (opening_read File defs o.left);
+  mode = rw i refl;
+  script = rw b refl;
+  are_open = tt;
+  at = record {
+    out = [];
+    has = record { logs = no_logs; ran = (refl, refl); stand = h; legal = tt };
+    shown = record { part = []; gained = Gained-none o.written; whole = rw b refl; same = refl };
+  };
+  same = refl;
+}
+
+-- a run ended at an item
+halted_at : (defs : List RecordDef) (o w v : Outside) (e f : EngineKept) (s : Stripes) (end : RunEnd) (last : Numbered) (before : List Numbered) (q : Past) (rest : List ℕ)
+    → e.script ≡ script_of before → AreOpen before → IsAt (sunk o) defs (acts_of before) s e.held (sunk w)
+    → IsTaken q rest → Took o.left v.left q.taken → items_of File defs q.lines ≡ last ∷ before → last.line ≡ length q.lines → stop_of File defs q.lines ≡ stop_at last → v.reads ≡ o.reads
+    → Halts end last.item last.line (acts_with last.item e.script) defs e s (sunk w) f (sunk v) → IsEnded defs end o f.held v
+halted_at defs o w v e f s end last before q rest script going at bytes took these number stop reads halts =
+    let h = halts (sunk o) (acts_of before) at in
+    let acts = rw script at h.acts_are in
+    let cause = rw script at h.cause in
+    record {
+      past = q;
+      rest = rest;
+      later = h.later;
+      done = h.now ++ acts_of before;
+      logs = h.logs;
+      out = h.out;
+      begun = record {
+        bytes = bytes;
+        took = took;
+        acts = ap acts_of these ∙ ap (λ (l : List Act). l ++ acts_of before) acts ∙ append_assoc h.later h.now (acts_of before);
+        ran = h.ran;
+        legal = h.legal;
+      };
+      cause = inl (record {
+        last = last;
+        before = before;
+        now = h.now;
+        items_are = these;
+        newest = number;
+        are_open = going;
+        done_is = refl;
+        stop_is = stop;
+        cause = cause;
+        reads = reads;
+      });
+      told = h.told;
+    }
+
+-- the next item is heard, and the script goes on
+pub item_went : (defs : List RecordDef) (o : Outside) (k new : Kept) (e f : EngineKept) (s t : Stripes) (item : Item) (was now : Option (List ℕ)) (before after : ℕ) (written next : Option (List ℕ)) (writes faults : ℕ)
+    → (run : IsRunning defs o k e s (record { left = was; reads = before; written = written; writes = writes }))
+    → new.mode ≡ k.mode
+    → ((from : Option (List ℕ)) (p : Past) → IsRead defs from k p was → ComesNext defs from p (nexts.Item item) new now before after)
+    → Hears item new.lines defs None e s (record { written = written; faults = writes }) f t (record { written = next; faults = faults })
+    → IsRunning defs o new f t (record { left = now; reads = after; written = next; writes = faults })
+item_went defs o k new e f s t item was now before after written next writes faults run mode comes h =
+    let n = comes o.left run.past run.read in
+    let file : new.mode ≡ File = mode ∙ run.mode in
+    let these : items_of File defs n.0.lines ≡ record { line = new.lines; item = item } ∷ items_of File defs run.past.lines = rw file at n.3 in
+    let goes = rw run.script at h.1 in
+    let at = rw run.script at (h.2 (sunk o) (acts_of (items_of File defs run.past.lines)) run.at) in
+    record {
+      past = n.0;
+      read = n.1;
+      mode = file;
+      script = h.0 ∙ ap (λ (x : Script). after_item item x) run.script ∙ sym (ap script_of these);
+      are_open = rw these (goes, run.are_open);
+      at = rw these at;
+      same = n.5 ∙ run.same;
+    }
+
+-- the next item is heard, and ends the run
+pub item_halted : (defs : List RecordDef) (o : Outside) (k new : Kept) (e f : EngineKept) (s : Stripes) (item : Item) (end : RunEnd) (was now : Option (List ℕ)) (before after : ℕ) (written next : Option (List ℕ)) (writes faults : ℕ)
+    → (run : IsRunning defs o k e s (record { left = was; reads = before; written = written; writes = writes }))
+    → new.mode ≡ k.mode
+    → ((from : Option (List ℕ)) (p : Past) → IsRead defs from k p was → ComesNext defs from p (nexts.Item item) new now before after)
+    → Halts end item new.lines (acts_with item e.script) defs e s (record { written = written; faults = writes }) f (record { written = next; faults = faults })
+    → IsEnded defs end o f.held (record { left = now; reads = after; written = next; writes = faults })
+item_halted defs o k new e f s item end was now before after written next writes faults run mode comes h =
+    let n = comes o.left run.past run.read in
+    let file : new.mode ≡ File = mode ∙ run.mode in
+    let these : items_of File defs n.0.lines ≡ record { line = new.lines; item = item } ∷ items_of File defs run.past.lines = rw file at n.3 in
+    let none : stop_of File defs n.0.lines ≡ Open = rw file at n.1.stands.is_open in
+    let stop : stop_at (record { line = new.lines; item = item }) ≡ Open = rw n.4 refl in
+    halted_at defs o (record { left = was; reads = before; written = written; writes = writes }) (record { left = now; reads = after; written = next; writes = faults }) e f s end
+    (record { line = new.lines; item = item }) (items_of File defs run.past.lines) n.0 new.left run.script run.are_open run.at n.1.stands.bytes n.1.took these n.1.stands.count (none ∙ sym stop) (n.5 ∙ run.same) h
+
+-- no end of a text is a fault of writing
+no_write_fault : (end : TextEnd) → is_write_fault (run_end end) ≡ false
+no_write_fault texts.End = refl
+no_write_fault (texts.CutOff n) = refl
+no_write_fault (texts.Bad b) = refl
+no_write_fault (texts.LineTooLong n) = refl
+no_write_fault texts.TooMuch = refl
+no_write_fault texts.ReadFault = refl
+no_write_fault texts.NoMemory = refl
+
+-- the text ended before END
+early_end : (defs : List RecordDef) (o : Outside) (k new : Kept) (e : EngineKept) (s : Stripes) (end : TextEnd) (was now : Option (List ℕ)) (before after : ℕ) (written : Option (List ℕ)) (writes : ℕ)
+    → (run : IsRunning defs o k e s (record { left = was; reads = before; written = written; writes = writes }))
+    → new.mode ≡ k.mode
+    → ((from : Option (List ℕ)) (p : Past) → IsRead defs from k p was → ComesNext defs from p (nexts.Ended end) new now before after)
+    → (end ≡ texts.End → ⊥) → ((line : ℕ) (ns : List Numbered) → last_items end line ns ≡ ns)
+    → IsEnded defs (run_end end) o e.held (record { left = now; reads = after; written = written; writes = writes })
+early_end defs o k new e s end was now before after written writes run mode comes early none =
+    let n = comes o.left run.past run.read in
+    let file : new.mode ≡ File = mode ∙ run.mode in
+    let here = rw file at n.2 in
+    let these : items_of File defs n.0.lines ≡ items_of File defs run.past.lines = (rw file at n.4) ∙ none (length n.0.lines) (items_of File defs run.past.lines) in
+    let cause = rw run.same at here.cause in
+    record {
+      past = n.0;
+      rest = n.1;
+      later = [];
+      done = acts_of (items_of File defs run.past.lines);
+      logs = run.at.has.logs;
+      out = run.at.out;
+      begun = record { bytes = here.bytes; took = here.took; acts = ap acts_of these; ran = run.at.has.ran; legal = run.at.has.legal };
+      cause = inr (record { text_end = end; end_is = refl; early = early; are_open = rw these run.are_open; all_done = refl; cause = cause });
+      told = rw (no_write_fault end) run.at.shown;
+    }
+
+-- the text ended before END, and so did the run
+lasted_early : (defs : List RecordDef) (o : Outside) (k new : Kept) (e f : EngineKept) (s : Stripes) (end : TextEnd) (result : RunEnd) (was now : Option (List ℕ)) (before after : ℕ) (written next : Option (List ℕ)) (writes faults : ℕ)
+    → (run : IsRunning defs o k e s (record { left = was; reads = before; written = written; writes = writes }))
+    → new.mode ≡ k.mode
+    → ((from : Option (List ℕ)) (p : Past) → IsRead defs from k p was → ComesNext defs from p (nexts.Ended end) new now before after)
+    → (end ≡ texts.End → ⊥) → ((line : ℕ) (ns : List Numbered) → last_items end line ns ≡ ns)
+    → (result ≡ run_end end) × (f.held ≡ e.held) × (◌≡◌ {A = Sunk} (record { written = next; faults = faults }) (record { written = written; faults = writes }))
+    → IsEnded defs result o f.held (record { left = now; reads = after; written = next; writes = faults })
+lasted_early defs o k new e f s end result was now before after written next writes faults run mode comes early none l =
+    let same : Sunk = record { written = written; faults = writes } in
+    let there : next ≡ written = ap (λ (x : Sunk). x.written) l.2 in
+    let count : faults ≡ writes = ap (λ (x : Sunk). x.faults) l.2 in
+    rw (l.0, l.1, there, count) (early_end defs o k new e s end was now before after written writes run mode comes early none)
+
+-- the text ended, and so does the run
+pub lasted : (defs : List RecordDef) (o : Outside) (k new : Kept) (e f : EngineKept) (s : Stripes) (end : TextEnd) (result : RunEnd) (was now : Option (List ℕ)) (before after : ℕ) (written next : Option (List ℕ)) (writes faults : ℕ)
+    → (run : IsRunning defs o k e s (record { left = was; reads = before; written = written; writes = writes }))
+    → new.mode ≡ k.mode
+    → ((from : Option (List ℕ)) (p : Past) → IsRead defs from k p was → ComesNext defs from p (nexts.Ended end) new now before after)
+    → LastBy end new.lines defs result e s (record { written = written; faults = writes }) f (record { written = next; faults = faults })
+    → IsEnded defs result o f.held (record { left = now; reads = after; written = next; writes = faults })
+lasted defs o k new e f s texts.End result was now before after written next writes faults run mode comes h =
+    let n = comes o.left run.past run.read in
+    let file : new.mode ≡ File = mode ∙ run.mode in
+    let here = rw file at n.2 in
+    let number : new.lines ≡ length n.0.lines = n.5 in
+    let these : items_of File defs n.0.lines ≡ record { line = length n.0.lines; item = items.End } ∷ items_of File defs run.past.lines = rw file at n.4 in
+    halted_at defs o (record { left = was; reads = before; written = written; writes = writes }) (record { left = now; reads = after; written = next; writes = faults }) e f s result
+    (record { line = new.lines; item = items.End }) (items_of File defs run.past.lines) n.0 n.1 run.script run.are_open run.at here.bytes here.took (rw number these) number (rw number here.cause.0) (here.cause.1 ∙ run.same) h
+lasted defs o k new e f s (texts.CutOff x) result was now before after written next writes faults run mode comes h = lasted_early defs o k new e f s (texts.CutOff x) result was now before after written next writes faults run mode comes (λ q. cc) (λ line ns. refl) h
+lasted defs o k new e f s (texts.Bad x) result was now before after written next writes faults run mode comes h = lasted_early defs o k new e f s (texts.Bad x) result was now before after written next writes faults run mode comes (λ q. cc) (λ line ns. refl) h
+lasted defs o k new e f s (texts.LineTooLong x) result was now before after written next writes faults run mode comes h = lasted_early defs o k new e f s (texts.LineTooLong x) result was now before after written next writes faults run mode comes (λ q. cc) (λ line ns. refl) h
+lasted defs o k new e f s texts.TooMuch result was now before after written next writes faults run mode comes h = lasted_early defs o k new e f s texts.TooMuch result was now before after written next writes faults run mode comes (λ q. cc) (λ line ns. refl) h
+lasted defs o k new e f s texts.ReadFault result was now before after written next writes faults run mode comes h = lasted_early defs o k new e f s texts.ReadFault result was now before after written next writes faults run mode comes (λ q. cc) (λ line ns. refl) h
+lasted defs o k new e f s texts.NoMemory result was now before after written next writes faults run mode comes h = lasted_early defs o k new e f s texts.NoMemory result was now before after written next writes faults run mode comes (λ q. cc) (λ line ns. refl) h
+
+-- nothing was begun for want of memory
+pub not_begun : (defs : List RecordDef) (o : Outside) → Ends defs ends.NoMemory o o
+not_begun defs o = record {
+  reached = ends.NoMemory;
+  past = nothing;
+  rest = [];
+  later = [];
+  done = [];
+  logs = no_logs;
+  out = [];
+  begun = record { bytes = (opening_read File defs o.left).stands.bytes; took = Took-none o.left; acts = refl; ran = (refl, refl); legal = tt };
+  cause = inr (record { text_end = texts.NoMemory; end_is = refl; early = λ q. cc; are_open = tt; all_done = refl; cause = (refl, refl) });
+  last = inl refl;
+  wrote = inl (record { gained = Gained-none o.written; same = refl });
+}
+
+is_fault : (end : RunEnd) → is_write_fault end ≡ true → end ≡ ends.WriteFault
+is_fault ends.WriteFault h = refl
+is_fault ends.Done h = absurd (cc)
+is_fault (ends.CutOff n) h = absurd (cc)
+is_fault (ends.Bad b) h = absurd (cc)
+is_fault (ends.LineTooLong n) h = absurd (cc)
+is_fault (ends.BadStep n) h = absurd (cc)
+is_fault (ends.Refused n limit) h = absurd (cc)
+is_fault ends.TooMuch h = absurd (cc)
+is_fault ends.ReadFault h = absurd (cc)
+is_fault ends.Spent h = absurd (cc)
+is_fault ends.NoMemory h = absurd (cc)
+
+-- the cause of an end that is no fault of writing does not speak of the writes
+other_stop : (end : RunEnd) (message : Option Message) (item : Item) (line : ℕ) (later : List Act) (logs : Logs) (before after now : ℕ)
+    → is_write_fault end ≡ false → Stops end message item line later logs before after → Stops end message item line later logs before now
+other_stop ends.WriteFault message item line later logs before after now h c = absurd (cc)
+other_stop ends.Done message item line later logs before after now h c = c
+other_stop (ends.CutOff n) message item line later logs before after now h c = c
+other_stop (ends.Bad b) message item line later logs before after now h c = c
+other_stop (ends.LineTooLong n) message item line later logs before after now h c = c
+other_stop (ends.BadStep n) message item line later logs before after now h c = c
+other_stop (ends.Refused n limit) message item line later logs before after now h c = c
+other_stop ends.TooMuch message item line later logs before after now h c = c
+other_stop ends.ReadFault message item line later logs before after now h c = c
+other_stop ends.Spent message item line later logs before after now h c = c
+other_stop ends.NoMemory message item line later logs before after now h c = c
+
+-- what the outside tells once more was written
+abbrev pub later_on : Outside → Option (List ℕ) → ℕ → Outside
+later_on w now after = record { left = w.left; reads = w.reads; written = now; writes = after }
+
+other_cause : (end : RunEnd) (defs : List RecordDef) (p : Past) (rest : List ℕ) (later done : List Act) (logs : Logs) (o w : Outside) (now : Option (List ℕ)) (after : ℕ)
+    → is_write_fault end ≡ false → IsCaused end defs p rest later done logs o w → IsCaused end defs p rest later done logs o (later_on w now after)
+other_cause end defs p rest later done logs o w now after h (inl i) = inl (record {
+  last = i.last;
+  before = i.before;
+  now = i.now;
+  items_are = i.items_are;
+  newest = i.newest;
+  are_open = i.are_open;
+  done_is = i.done_is;
+  stop_is = i.stop_is;
+  cause = other_stop end (script_of i.before).message i.last.item i.last.line later logs o.writes w.writes after h i.cause;
+  reads = i.reads;
+})
+other_cause end defs p rest later done logs o w now after h (inr t) = inr (record { text_end = t.text_end; end_is = t.end_is; early = t.early; are_open = t.are_open; all_done = t.all_done; cause = t.cause })
+
+-- all that was shown is written
+all_written : (o w : Sunk) (out held : List ℕ) (now : Option (List ℕ)) (after : ℕ) → IsShown o w out held → IsWritten held w.written now w.faults after → IsWritten out o.written now o.faults after
+all_written o w out held now after s d = record { gained = rw s.whole (Gained-more o.written w.written now s.part held s.gained d.gained); same = d.same ∙ s.same }
+
+all_cut : (o w : Sunk) (out held : List ℕ) (now : Option (List ℕ)) (after : ℕ) → IsShown o w out held → IsCutShort held w.written now w.faults after → IsCutShort out o.written now o.faults after
+all_cut o w out held now after s c =
+    let longer : IsCutShort (held ++ []) w.written now w.faults after = rw (append-nil held) c in
+    let cut = shown_cut o w (record { written = now; faults = after }) out held [] s longer in
+    rw (append-nil out) at cut
+
+-- what is told of an end, as the end is a fault of writing or not
+told_cut : (end : RunEnd) (o w : Sunk) (out held : List ℕ) → is_write_fault end ≡ true → ToldBy (is_write_fault end) o w out held → IsCutShort out o.written w.written o.faults w.faults
+told_cut end o w out held h t = let x = rw h at t in x
+
+told_shown : (end : RunEnd) (o w : Sunk) (out held : List ℕ) → is_write_fault end ≡ false → ToldBy (is_write_fault end) o w out held → IsShown o w out held
+told_shown end o w out held h t = let x = rw h at t in x
+
+-- the run ended, and what was held back is written
+pub record IsOver (defs : List RecordDef) (last : RunEnd) (o w : Outside) (flushed : Bool) : Type 0 where
+  pub ends : Ends defs last o w
+  pub is_flushed : IsFlushed last flushed
+
+over_fault : (defs : List RecordDef) (end last : RunEnd) (o w : Outside) (held : List ℕ) (now : Option (List ℕ)) (flushed : Bool) (after : ℕ)
+    → IsEnded defs end o held w → is_write_fault end ≡ true → last ≡ end → now ≡ w.written → after ≡ w.writes → IsOver defs last o (later_on w now after) flushed
+over_fault defs end last o w held now flushed after e f l n a =
+    let fault : last ≡ ends.WriteFault = l ∙ is_fault end f in
+    let cut = told_cut end (sunk o) (sunk w) e.out held f e.told in
+    rw (n, a) (record {
+      ends = record {
+        reached = end;
+        past = e.past;
+        rest = e.rest;
+        later = e.later;
+        done = e.done;
+        logs = e.logs;
+        out = e.out;
+        begun = record { bytes = e.begun.bytes; took = e.begun.took; acts = e.begun.acts; ran = e.begun.ran; legal = e.begun.legal };
+        cause = e.cause;
+        last = inl l;
+        wrote = inr (fault, cut);
+      };
+      is_flushed = inr (inl fault);
+    })
+
+over_drained : (defs : List RecordDef) (end last : RunEnd) (o w : Outside) (held : List ℕ) (now : Option (List ℕ)) (flushed : Bool) (after : ℕ)
+    → IsEnded defs end o held w → is_write_fault end ≡ false → last ≡ end → flushed ≡ true → IsWritten held w.written now w.writes after → IsOver defs last o (later_on w now after) flushed
+over_drained defs end last o w held now flushed after e f l fl d = record {
+  ends = record {
+    reached = end;
+    past = e.past;
+    rest = e.rest;
+    later = e.later;
+    done = e.done;
+    logs = e.logs;
+    out = e.out;
+    begun = record { bytes = e.begun.bytes; took = e.begun.took; acts = e.begun.acts; ran = e.begun.ran; legal = e.begun.legal };
+    cause = other_cause end defs e.past e.rest e.later e.done e.logs o w now after f e.cause;
+    last = inl l;
+    wrote = inl (all_written (sunk o) (sunk w) e.out held now after (told_shown end (sunk o) (sunk w) e.out held f e.told) d);
+  };
+  is_flushed = inl fl;
+}
+
+over_cut : (defs : List RecordDef) (end last : RunEnd) (o w : Outside) (held : List ℕ) (now : Option (List ℕ)) (flushed : Bool) (after : ℕ)
+    → IsEnded defs end o held w → is_write_fault end ≡ false → last ≡ ends.WriteFault → IsCutShort held w.written now w.writes after → IsOver defs last o (later_on w now after) flushed
+over_cut defs end last o w held now flushed after e f l c =
+    let cut = all_cut (sunk o) (sunk w) e.out held now after (told_shown end (sunk o) (sunk w) e.out held f e.told) c in
+    record {
+      ends = record {
+        reached = end;
+        past = e.past;
+        rest = e.rest;
+        later = e.later;
+        done = e.done;
+        logs = e.logs;
+        out = e.out;
+        begun = record { bytes = e.begun.bytes; took = e.begun.took; acts = e.begun.acts; ran = e.begun.ran; legal = e.begun.legal };
+        cause = other_cause end defs e.past e.rest e.later e.done e.logs o w now after f e.cause;
+        last = inr (l, cut.rose);
+        wrote = inr (l, cut);
+      };
+      is_flushed = inr (inl l);
+    }
+
+pub over : (defs : List RecordDef) (end last : RunEnd) (o w : Outside) (held : List ℕ) (now : Option (List ℕ)) (flushed : Bool) (after : ℕ)
+    → IsEnded defs end o held w → Finishes end last held w.written now flushed w.writes after → IsOver defs last o (later_on w now after) flushed
+over defs end last o w held now flushed after e (inl f) = over_fault defs end last o w held now flushed after e f.0 f.1 f.2 f.3
+over defs end last o w held now flushed after e (inr (inl f)) = over_drained defs end last o w held now flushed after e f.0 f.1 f.2 f.3
+over defs end last o w held now flushed after e (inr (inr f)) = over_cut defs end last o w held now flushed after e f.0 f.1 f.2
