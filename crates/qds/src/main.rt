@@ -1,4 +1,4 @@
-//! `qds`: replays a script of market data.
+//! `qds`: checks, formats and replays texts of market data.
 #![tactic(auto)]
 
 use qd_outside::{Reading, RealFiles, Writing};

@@ -1,12 +1,3 @@
-pub mod Appends
-pub mod FeedLaws
-pub mod LineLaws
-pub mod LineOrder
-pub mod KeyCounts
-pub mod StepLaws
-pub mod WorkLaws
-pub mod EndLaws
-pub mod DecidingLaws
-pub mod SpellingLaws
-pub mod SaidLaws
-pub mod UnmixedLaws
+pub mod DecidedLaws
+pub mod Pieces
+mod Rows

@@ -1,27 +1,21 @@
-//! The top call of `qds`: a script in, replies out.
+//! The top call of `qds`.
 //!
 //! [`plain_main`] is the whole program over a source, two sinks and files that are handed in, and its contract is the
-//! theorem of the whole: which calls a script makes and what is printed of their replies (`specs/Groups.antt`,
-//! `specs/Scripts.antt`), how a run ends and from which cause (`specs/Ends.antt`), and that the text alone decides its
-//! end where nothing outside fails (`specs/Deciding.antt`).
+//! theorem of the whole: which words ask for what, which files are opened, what a command reads and prints, and how a
+//! run ends and from which cause (`specs/Program.antt`, `specs/Commands.antt`); the status and the line of each end
+//! (`specs/Statuses.antt`, `specs/FaultLines.antt`); and that scheme and text alone decide the end where nothing fails.
 #![tactic(auto)]
 
-mod engine;
-mod laws;
+mod fault_line;
+mod names;
 mod plain;
-mod reply;
-mod run_end;
+mod program_end;
 mod running;
 mod status;
-mod text;
 
-pub use engine::{Engine, Turn};
-pub use laws::{group_law, line_law, quote_law};
 pub use plain::plain_main;
-pub use run_end::{BadLine, Limit, RunEnd, Why};
-pub use running::run;
+pub use program_end::ProgramEnd;
 pub use status::Status;
-pub use text::{Due, Place, Said};
 
 #[cfg(test)]
 mod tests;

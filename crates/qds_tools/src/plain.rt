@@ -1,16 +1,25 @@
-ghost use Rattle.std.specs.Prelude.{◌≡◌, true, false, map, string_bytes, List, ℕ, Some, ◌⊎◌, []};
-ghost use Rattle.qds_tools.specs.declared.run_end.RunEnd.{RunEnd};
-ghost use Rattle.qds_tools.specs.Deciding.{Decides};
-ghost use Rattle.qds_tools.specs.Ends.{Ends, IsFlushed, NoFault};
-ghost use Rattle.qds_tools.specs.Statuses.{asks_replay, usage_text, Told, Reports};
+ghost use Rattle.std.specs.Prelude.{◌≡◌, ◌⊎◌, map, string_bytes, List, ℕ, Option, Some, None, Ok, Err, IfSome};
+ghost use Rattle.qd_items.specs.declared.ends.RunEnd.{RunEnd};
+ghost use Rattle.qd_outside.specs.Writing.{Gained};
+ghost use Rattle.qd_scheme.specs.declared.defs.RecordDef.{RecordDef};
+ghost use Rattle.qd_scheme_file.specs.declared.no_scheme.NoScheme.{NoScheme};
+ghost use Rattle.qd_words.specs.Asking.{Asked, asks};
+ghost use Rattle.qds_tools.specs.declared.program_end.ProgramEnd.{ProgramEnd};
+ghost use Rattle.qds_tools.specs.declared.program_end.ProgramEnd.TheVariants.{Usage, Refused, Ran};
+ghost use Rattle.qds_tools.specs.Commands.{LeadsTo};
+ghost use Rattle.qds_tools.specs.Program.{Ends, IsScheme, IsText, NoFault};
+ghost use Rattle.qds_tools.specs.Statuses.{Reports};
 
-use crate::running::run;
-use crate::status::{Status, asks_replay, report, usage};
+use crate::fault_line::write_fault;
+use crate::program_end::ProgramEnd;
+use crate::running::run_asked;
+use crate::status::Status;
 use qd_outside::{Files, Sink, Source};
+use qd_words::ask_of;
 use std::alloc::Global;
 
-/// The program over handed-in objects: `replay` reads a script from `input`, makes its calls on a new stripe, and prints
-/// to `out`; a line on a fault goes to `err`.
+/// The program over handed-in objects: the words ask for a command, which reads a file or `input` and prints to `out`; a
+/// line on a fault goes to `err`.
 pub fn plain_main<F: Files, S: Source, K: Sink, E: Sink>(
     alloc: Global,
     words: &Vec<String>,
@@ -20,22 +29,39 @@ pub fn plain_main<F: Files, S: Source, K: Sink, E: Sink>(
     err: &mut E,
 ) -> Status
     // Words that ask for nothing are refused, and nothing is read or written but the line.
-    ensures usage { asks_replay (map string_bytes words.now.items) ≡ false → (result ≡ 2) × (input.new ≡ input.old) × (out.new ≡ out.old)
-        × Told usage_text (E.written err.old) (E.written err.new) (E.faults err.old) (E.faults err.new) }
-    // A run ends in one of these ways, each with its cause, and the status and the line are those of the end.
-    ensures run { asks_replay (map string_bytes words.now.items) ≡ true → (end : RunEnd)
-        × Ends (record { left = S.left input.old; reads = S.faults input.old; written = K.written out.old; writes = K.faults out.old }) end []
-        (record { left = S.left input.new; reads = S.faults input.new; written = K.written out.new; writes = K.faults out.new })
-        × IsFlushed end (K.flushed out.new) × Reports end result (E.written err.old) (E.written err.new) (E.faults err.old) (E.faults err.new) }
-    // The text alone decides how a run ends in which no fault is counted, but for want of memory.
-    ensures decided { asks_replay (map string_bytes words.now.items) ≡ true → (text : List ℕ) (end : RunEnd) → S.left input.old ≡ Some text → Decides text end
-        → NoFault (record { left = S.left input.old; reads = S.faults input.old; written = K.written out.old; writes = K.faults out.old }) (record { left = S.left input.new; reads = S.faults input.new; written = K.written out.new; writes = K.faults out.new })
-        → Reports end result (E.written err.old) (E.written err.new) (E.faults err.old) (E.faults err.new) ⊎ (result ≡ 5) }
-    ensures files { files.new ≡ files.old }
+    ensures usage { asks (map string_bytes words.now.items) ≡ None → (files.new ≡ files.old) × (input.new ≡ input.old) × (out.new ≡ out.old)
+        × Reports Usage result (E.written err.old) (E.written err.new) (E.faults err.old) (E.faults err.new) }
+    // What is asked ends in one of these ways, each with its cause, and the status and the line are those of the end.
+    ensures run { (ask : Asked) → asks (map string_bytes words.now.items) ≡ Some ask → (end : ProgramEnd)
+        × Ends ask end (record { files = F.told files.old; left = S.left input.old; reads = S.faults input.old; written = K.written out.old; flushed = K.flushed out.old; writes = K.faults out.old })
+        (record { files = F.told files.new; left = S.left input.new; reads = S.faults input.new; written = K.written out.new; flushed = K.flushed out.new; writes = K.faults out.new })
+        × Reports end result (E.written err.old) (E.written err.new) (E.faults err.old) (E.faults err.new) }
+    // A scheme file that is refused is told, where no fault is counted, but for want of memory.
+    ensures refused { (ask : Asked) (why : NoScheme) → asks (map string_bytes words.now.items) ≡ Some ask → IsScheme ask.scheme (F.told files.old) (Err why)
+        → NoFault (record { files = F.told files.old; left = S.left input.old; reads = S.faults input.old; written = K.written out.old; flushed = K.flushed out.old; writes = K.faults out.old })
+        (record { files = F.told files.new; left = S.left input.new; reads = S.faults input.new; written = K.written out.new; flushed = K.flushed out.new; writes = K.faults out.new })
+        → Reports (Refused why) result (E.written err.old) (E.written err.new) (E.faults err.old) (E.faults err.new) ⊎ (result ≡ 5) }
+    // Scheme and text alone decide how a run ends in which no fault is counted, and what it prints, but for want of memory.
+    ensures decided { (ask : Asked) (defs : List RecordDef) (text : List ℕ) (printed : Option (List ℕ)) (end : RunEnd) → asks (map string_bytes words.now.items) ≡ Some ask
+        → IsScheme ask.scheme (F.told files.old) (Ok defs) → LeadsTo ask.command defs text end printed
+        → IsText ask.file (record { files = F.told files.old; left = S.left input.old; reads = S.faults input.old; written = K.written out.old; flushed = K.flushed out.old; writes = K.faults out.old }) text
+        → NoFault (record { files = F.told files.old; left = S.left input.old; reads = S.faults input.old; written = K.written out.old; flushed = K.flushed out.old; writes = K.faults out.old })
+        (record { files = F.told files.new; left = S.left input.new; reads = S.faults input.new; written = K.written out.new; flushed = K.flushed out.new; writes = K.faults out.new })
+        → (Reports (Ran end) result (E.written err.old) (E.written err.new) (E.faults err.old) (E.faults err.new) × IfSome printed (Gained (K.written out.old) (K.written out.new))) ⊎ (result ≡ 5) }
 {
-    if !asks_replay(words) {
-        return usage(err);
+    match ask_of(words) {
+        Some(ask) => {
+            let end = run_asked(alloc, ask, files, input, out);
+            report(end, err)
+        }
+        None => report(ProgramEnd::Usage, err),
     }
-    let end = run(alloc, input, out);
-    report(end, err)
+}
+
+/// Tells how the program ended. A failure to write the line changes nothing.
+fn report<E: Sink>(end: ProgramEnd, err: &mut E) -> Status
+    ensures { Reports end result (E.written err.old) (E.written err.new) (E.faults err.old) (E.faults err.new) }
+{
+    let _ = write_fault(err, end);
+    Status::of(end)
 }

@@ -1,60 +1,125 @@
-ghost use Rattle.std.specs.Prelude.{◌≡◌, []};
-ghost use Rattle.qd_ticker.specs.Stripes.{Stands};
-ghost use Rattle.qds_tools.specs.Engines.{opening};
-ghost use Rattle.qds_tools.specs.Ends.{Ends, IsFlushed, Finished};
+//! A command with its scheme and its text.
 
-use crate::engine::{Engine, Turn};
-use crate::run_end::RunEnd;
-use qd_outside::{Sink, Source};
-use qd_ticker::TickerStripe;
+ghost use Rattle.std.specs.Prelude.{◌≡◌};
+ghost use Rattle.std.specs.Option.{option_copied};
+ghost use Rattle.qd_words.specs.Asking.{asked};
+ghost use Rattle.qd_check.specs.Runs.{IsFlushed};
+ghost use Rattle.qds_tools.specs.Commands.{RunsBy};
+ghost use Rattle.qds_tools.specs.Program.{Ends, RunsOn, FileRuns, SchemeComes, SchemeRead};
+
+use crate::program_end::ProgramEnd;
+use qd_check::{check, fmt};
+use qd_items::RunEnd;
+use qd_outside::{FileSource, Files, Sink, Source};
+use qd_replay::replay;
+use qd_scheme::Scheme;
+use qd_scheme_file::{NoScheme, read_scheme};
+use qd_words::{Ask, Command};
 use std::alloc::Global;
 
-/// Runs a script over a new stripe. All that was printed is written before the run ends.
-pub fn run<S: Source, K: Sink>(alloc: Global, source: &mut S, sink: &mut K) -> RunEnd
-    ensures ends { Ends (record { left = S.left source.old; reads = S.faults source.old; written = K.written sink.old; writes = K.faults sink.old }) result [] (record { left = S.left source.new; reads = S.faults source.new; written = K.written sink.new; writes = K.faults sink.new }) }
-    ensures flushed { IsFlushed result (K.flushed sink.new) }
-{
-    let mut stripe = match TickerStripe::new(alloc) {
-        Err(_) => return RunEnd::NoMemory,
-        Ok(stripe) => stripe,
-    };
-    let mut engine = match Engine::new(alloc) {
-        Err(_) => return RunEnd::NoMemory,
-        Ok(engine) => engine,
-    };
-    let end = run_steps(alloc, &mut engine, &mut stripe, source, sink);
-    finish(&mut engine, sink, end)
-}
-
-/// Steps until the run ends.
-fn run_steps<S: Source, K: Sink>(
+/// Runs what is asked: the scheme comes first, then the text.
+pub fn run_asked<F: Files, S: Source, K: Sink>(
     alloc: Global,
-    engine: &mut Engine,
-    stripe: &mut TickerStripe,
-    source: &mut S,
-    sink: &mut K,
-) -> RunEnd
-    requires opening { engine.old ≡ opening }
-    requires stands { Stands stripe.old [] }
-    ensures { Ends (record { left = S.left source.old; reads = S.faults source.old; written = K.written sink.old; writes = K.faults sink.old }) result engine.new.held (record { left = S.left source.new; reads = S.faults source.new; written = K.written sink.new; writes = K.faults sink.new }) }
+    ask: Ask<'_>,
+    files: &mut F,
+    input: &mut S,
+    out: &mut K,
+) -> ProgramEnd
+    ensures { Ends (asked ask.entry) result (record { files = F.told files.old; left = S.left input.old; reads = S.faults input.old; written = K.written out.old; flushed = K.flushed out.old; writes = K.faults out.old })
+        (record { files = F.told files.new; left = S.left input.new; reads = S.faults input.new; written = K.written out.new; flushed = K.flushed out.new; writes = K.faults out.new }) }
 {
-    'steps: loop {
-        match engine.step(alloc, stripe, source, sink) {
-            Turn::Went => {}
-            Turn::Ended(end) => return end,
-        }
+    match scheme_of(alloc, ask.scheme, files) {
+        Ok(scheme) => ProgramEnd::Ran(run_on(
+            alloc,
+            ask.command,
+            ask.file,
+            &scheme,
+            files,
+            input,
+            out,
+        )),
+        Err(why) => ProgramEnd::Refused(why),
     }
 }
 
-/// Writes all that was printed. A run that ends well but for this ends with a fault of writing.
-fn finish<K: Sink>(engine: &mut Engine, sink: &mut K, end: RunEnd) -> RunEnd
-    ensures { Finished end result engine.old.held (K.written sink.old) (K.written sink.new) (K.flushed sink.new) (K.faults sink.old) (K.faults sink.new) }
+/// The scheme: the built-in one where no file is named.
+fn scheme_of<F: Files>(alloc: Global, name: Option<&str>, files: &mut F) -> Result<Scheme, NoScheme>
+    ensures { SchemeComes (option_copied name.entry) result (F.told files.old) (F.told files.new) }
 {
-    if let RunEnd::WriteFault = end {
-        return end;
+    match name {
+        Some(name) => scheme_in(alloc, name, files),
+        None => match Scheme::builtin(alloc) {
+            Ok(scheme) => Ok(scheme),
+            Err(_) => Err(NoScheme::NoMemory),
+        },
     }
-    if !engine.drain(sink) {
-        return RunEnd::WriteFault;
+}
+
+/// The scheme of a scheme file.
+fn scheme_in<F: Files>(alloc: Global, name: &str, files: &mut F) -> Result<Scheme, NoScheme>
+    ensures { SchemeRead name.now result (F.told files.old) (F.told files.new) }
+{
+    if !files.open_in(name) {
+        return Err(NoScheme::ReadFault);
     }
-    end
+    let mut source = FileSource::new(files);
+    read_scheme(alloc, &mut source)
+}
+
+/// Runs a command over its text: standard input where no file is named.
+fn run_on<F: Files, S: Source, K: Sink>(
+    alloc: Global,
+    command: Command,
+    file: Option<&str>,
+    scheme: &Scheme,
+    files: &mut F,
+    input: &mut S,
+    out: &mut K,
+) -> RunEnd
+    ensures { RunsOn command scheme.now (option_copied file.entry) result (record { files = F.told files.old; left = S.left input.old; reads = S.faults input.old; written = K.written out.old; flushed = K.flushed out.old; writes = K.faults out.old })
+        (record { files = F.told files.new; left = S.left input.new; reads = S.faults input.new; written = K.written out.new; flushed = K.flushed out.new; writes = K.faults out.new }) }
+{
+    match file {
+        Some(name) => run_file(alloc, command, name, scheme, files, out),
+        None => run(alloc, command, scheme, input, out),
+    }
+}
+
+/// Runs a command over a file.
+fn run_file<F: Files, K: Sink>(
+    alloc: Global,
+    command: Command,
+    name: &str,
+    scheme: &Scheme,
+    files: &mut F,
+    out: &mut K,
+) -> RunEnd
+    ensures { FileRuns command scheme.now name.now result (F.told files.old) (F.told files.new) (K.written out.old) (K.written out.new) (K.flushed out.old) (K.flushed out.new) (K.faults out.old) (K.faults out.new) }
+{
+    if !files.open_in(name) {
+        return RunEnd::ReadFault;
+    }
+    let mut source = FileSource::new(files);
+    run(alloc, command, scheme, &mut source, out)
+}
+
+/// Runs a command over a source.
+#[tactic(auto, using(crate::proofs::DecidedLaws::flushed_by))]
+fn run<S: Source, K: Sink>(
+    alloc: Global,
+    command: Command,
+    scheme: &Scheme,
+    source: &mut S,
+    out: &mut K,
+) -> RunEnd
+    ensures kept { S.kept source.new ≡ S.kept source.old }
+    ensures runs { RunsBy command scheme.now (record { left = S.left source.old; reads = S.faults source.old; written = K.written out.old; writes = K.faults out.old })
+        result (record { left = S.left source.new; reads = S.faults source.new; written = K.written out.new; writes = K.faults out.new }) }
+    ensures flushed { IsFlushed result (K.flushed out.new) }
+{
+    match command {
+        Command::Check => check(alloc, scheme, source, out),
+        Command::Fmt => fmt(alloc, scheme, source, out),
+        Command::Replay => replay(alloc, scheme, source, out),
+    }
 }

@@ -1,10 +1,24 @@
-use crate::plain_main;
-use qd_outside::{ListFiles, ListSink, ListSource};
+use super::*;
+use qd_outside::{HeldFile, ListFiles, ListSink, ListSource};
 use std::alloc::{AllocError, Global};
-use std::process::Abort;
 use std::test::Fail;
 
-/// What a run answered and wrote.
+/// A run of the program: its words, each ended by `;`, its scheme file `s`, its file `t`, its input, and the number of the
+/// call that fails of the files, of the input and of the output, where one does. A TAB stands for each `|`.
+#[derive(Clone, Copy)]
+struct Run {
+    words: &'static str,
+    scheme: &'static str,
+    text: &'static str,
+    input: &'static str,
+    file_fails: usize,
+    read_fails: usize,
+    write_fails: usize,
+}
+
+const NONE: usize = 64;
+
+/// What a run answers and writes.
 #[derive(Drop)]
 struct Ran {
     status: u8,
@@ -12,10 +26,9 @@ struct Ran {
     err: ListSink,
 }
 
-/// Which calls of a source or a sink fail: the one of this number, from 0, if it is below 64.
 fn failing(alloc: Global, call: usize) -> Result<Vec<bool>, AllocError> {
     let mut plan = Vec::new(alloc);
-    if call < 64 {
+    if call < NONE {
         for _ in 0..call {
             plan.push(false)?;
         }
@@ -24,35 +37,7 @@ fn failing(alloc: Global, call: usize) -> Result<Vec<bool>, AllocError> {
     Ok(plan)
 }
 
-const NONE: usize = 64;
-
-/// Runs `replay` over a script, where a tab stands for each `|`, and the read and the call of the sink of these numbers fail.
-fn replayed(alloc: Global, script: &str, read: usize, write: usize) -> Result<Ran, AllocError> {
-    let mut words = Vec::new(alloc);
-    words.push("replay".to_string(alloc)?)?;
-    asked(alloc, &words, script, read, write)
-}
-
-fn asked(
-    alloc: Global,
-    words: &Vec<String>,
-    script: &str,
-    read: usize,
-    write: usize,
-) -> Result<Ran, AllocError> {
-    let mut files = ListFiles::new(alloc, Vec::new(alloc), Vec::new(alloc));
-    let mut input = ListSource::new(tabbed(alloc, script)?, failing(alloc, read)?);
-    let mut out = ListSink::new(alloc, failing(alloc, write)?);
-    let mut err = ListSink::new(alloc, Vec::new(alloc));
-    let status = plain_main(alloc, words, &mut files, &mut input, &mut out, &mut err);
-    Ok(Ran {
-        status: status.get(),
-        out,
-        err,
-    })
-}
-
-/// The text with a tab for each `|`.
+/// The bytes of a text, where a TAB stands for each `|`.
 fn tabbed(alloc: Global, text: &str) -> Result<Vec<u8>, AllocError> {
     let mut bytes = Vec::new(alloc);
     for byte in text.as_bytes() {
@@ -61,102 +46,225 @@ fn tabbed(alloc: Global, text: &str) -> Result<Vec<u8>, AllocError> {
     Ok(bytes)
 }
 
-/// A script, and what its run answers and writes.
+fn file(alloc: Global, name: &str, text: &str) -> Result<HeldFile, AllocError> {
+    Ok(HeldFile {
+        name: Vec::from_slice(alloc, name.as_bytes())?,
+        bytes: tabbed(alloc, text)?,
+    })
+}
+
+fn run_program(alloc: Global, run: Run) -> Result<Ran, AllocError> {
+    let mut words = Vec::new(alloc);
+    for word in run.words.split_terminator(';') {
+        words.push(word.to_string(alloc)?)?;
+    }
+    let mut held = Vec::new(alloc);
+    held.push(file(alloc, "s", run.scheme)?)?;
+    held.push(file(alloc, "t", run.text)?)?;
+    let mut files = ListFiles::new(alloc, held, failing(alloc, run.file_fails)?);
+    let mut input = ListSource::new(tabbed(alloc, run.input)?, failing(alloc, run.read_fails)?);
+    let mut out = ListSink::new(alloc, failing(alloc, run.write_fails)?);
+    let mut err = ListSink::new(alloc, Vec::new(alloc));
+    let status = plain_main(alloc, &words, &mut files, &mut input, &mut out, &mut err);
+    Ok(Ran {
+        status: status.get(),
+        out,
+        err,
+    })
+}
+
+const PLAIN: Run = Run {
+    words: "check;",
+    scheme: "=Bar|P:d2\n",
+    text: "==PROTOCOL|1\n==TICKER_DATA\nBar|X|01.50\n==END\n",
+    input: "==PROTOCOL|1\n==TICKER_DATA\nQuote|IBM|1.50|5|101|7\n==END\n",
+    file_fails: NONE,
+    read_fails: NONE,
+    write_fails: NONE,
+};
+
+/// A run, and what it answers and writes.
 struct Case {
-    script: &'static str,
+    run: Run,
     status: u8,
     out: &'static str,
     err: &'static str,
 }
 
-const TWO_QUOTES: &str =
-    "==PROTOCOL|1\n==TICKER_ADD_SUBSCRIPTION\nQuote|IBM\n==TICKER_DATA\nQuote|IBM|100|5|101|7\n==TICKER_DATA\nQuote|IBM|102|6|103|8\n==TAKE|TICKER|10\n==END\n";
-
-const TWO_QUOTES_OUT: &str =
-    "==PROTOCOL|1\n#LINK|0|TICKER\n==TICKER_DATA\nQuote|IBM|102|6|103|8\n==HEARTBEAT\n==END\n";
-
-const CASES: [Case; 11] = [
+const CASES: [Case; 18] = [
     // Of two quotes of a key the second alone is given.
     Case {
-        script: TWO_QUOTES,
+        run: Run {
+            words: "replay;",
+            input: "==PROTOCOL|1\n==TICKER_ADD_SUBSCRIPTION\nQuote|IBM\n==TICKER_DATA\nQuote|IBM|100|5|101|7\n==TICKER_DATA\nQuote|IBM|102|6|103|8\n==TAKE|TICKER|10\n==END\n",
+            ..PLAIN
+        },
         status: 0,
-        out: TWO_QUOTES_OUT,
+        out: "==PROTOCOL|1\n#LINK|0|TICKER\n==TICKER_DATA\nQuote|IBM|102|6|103|8\n==HEARTBEAT\n==END\n",
         err: "",
     },
-    // A quote that came before the subscription is not kept.
     Case {
-        script: "==PROTOCOL|1\n==TICKER_DATA\nQuote|A|1|1|1|1\n==TICKER_ADD_SUBSCRIPTION\nQuote|A\n==TAKE|TICKER|10\n==END\n",
+        run: Run {
+            words: "replay;t;--scheme;s;",
+            text: "==PROTOCOL|1\n==TICKER_ADD_SUBSCRIPTION\nBar|X\n==TICKER_DATA\nBar|X|01.50\n==TAKE|TICKER|1\n==END\n",
+            ..PLAIN
+        },
         status: 0,
-        out: "==PROTOCOL|1\n#LINK|0|TICKER\n==HEARTBEAT\n==END\n",
+        out: "==PROTOCOL|1\n#LINK|0|TICKER\n==TICKER_DATA\nBar|X|1.5\n==HEARTBEAT\n==END\n",
         err: "",
-    },
-    // The oldest pending keys come first.
-    Case {
-        script: "==PROTOCOL|1\n==TICKER_ADD_SUBSCRIPTION\nQuote|A\nQuote|B\nQuote|C\n==TICKER_DATA\nQuote|A|1|1|1|1\nQuote|B|2|2|2|2\nQuote|C|3|3|3|3\n==TAKE|TICKER|2\n==TICKER_DATA\nQuote|A|4|4|4|4\n==TAKE|TICKER|2\n==END\n",
-        status: 0,
-        out: "==PROTOCOL|1\n#LINK|0|TICKER\n==TICKER_DATA\nQuote|A|1|1|1|1\nQuote|B|2|2|2|2\n==HEARTBEAT\n#LINK|0|TICKER\n==TICKER_DATA\nQuote|C|3|3|3|3\nQuote|A|4|4|4|4\n==HEARTBEAT\n==END\n",
-        err: "",
-    },
-    // A pending key keeps its place.
-    Case {
-        script: "==PROTOCOL|1\n==TICKER_ADD_SUBSCRIPTION\nQuote|A\nQuote|B\n==TICKER_DATA\nQuote|A|1|1|1|1\nQuote|B|2|2|2|2\nQuote|A|3|3|3|3\n==TAKE|TICKER|10\n==END\n",
-        status: 0,
-        out: "==PROTOCOL|1\n#LINK|0|TICKER\n==TICKER_DATA\nQuote|A|3|3|3|3\nQuote|B|2|2|2|2\n==HEARTBEAT\n==END\n",
-        err: "",
-    },
-    // An empty input is cut off, and so is a last line without its line feed.
-    Case {
-        script: "",
-        status: 1,
-        out: "",
-        err: "qds: after line 0: CutOff\n",
-    },
-    Case {
-        script: "==PROTOCOL|1\n==END",
-        status: 1,
-        out: "==PROTOCOL|1\n",
-        err: "qds: after line 1: CutOff\n",
-    },
-    // Comments, empty lines and carriage returns change nothing, and what follows the end is not read.
-    Case {
-        script: "# one\r\n\r\n==PROTOCOL|1\r\n\n==END\r\nnonsense\n",
-        status: 0,
-        out: "==PROTOCOL|1\n==END\n",
-        err: "",
-    },
-    // A wrong line is told, and what stands before it is not lost.
-    Case {
-        script: "==PROTOCOL|1\n==TICK\n==END\n",
-        status: 1,
-        out: "==PROTOCOL|1\n",
-        err: "qds: line 2, place 1: Form\n",
-    },
-    Case {
-        script: "==END\n",
-        status: 1,
-        out: "",
-        err: "qds: line 1, place 1: Form\n",
-    },
-    Case {
-        script: "==PROTOCOL|1\n==TAKE|TICKER|4097\n",
-        status: 1,
-        out: "==PROTOCOL|1\n",
-        err: "qds: line 2, place 1: Form\n",
     },
     // A group that a wrong line follows is not called.
     Case {
-        script: "==PROTOCOL|1\n==TICKER_ADD_SUBSCRIPTION\nQuote|A\nQuote A\n",
+        run: Run {
+            words: "replay;",
+            input: "==PROTOCOL|1\n==TICKER_ADD_SUBSCRIPTION\nQuote|A\nQuote A\n",
+            ..PLAIN
+        },
         status: 1,
         out: "==PROTOCOL|1\n",
-        err: "qds: line 4, place 1: Form\n",
+        err: "qds: line 4, place 1: UnknownRecord\n",
+    },
+    Case {
+        run: Run {
+            words: "replay;",
+            input: "==PROTOCOL|1\n==LINK|128\n",
+            ..PLAIN
+        },
+        status: 1,
+        out: "==PROTOCOL|1\n",
+        err: "qds: line 2: BadStep\n",
+    },
+    Case {
+        run: PLAIN,
+        status: 0,
+        out: "items 4\n",
+        err: "",
+    },
+    Case {
+        run: Run {
+            words: "fmt;-;",
+            ..PLAIN
+        },
+        status: 0,
+        out: "==PROTOCOL|1\n==TICKER_DATA\nQuote|IBM|1.5|5|101|7\n==END\n",
+        err: "",
+    },
+    Case {
+        run: Run {
+            words: "fmt;--scheme;s;t;",
+            ..PLAIN
+        },
+        status: 0,
+        out: "==PROTOCOL|1\n==TICKER_DATA\nBar|X|1.5\n==END\n",
+        err: "",
+    },
+    Case {
+        run: Run {
+            words: "check;t;",
+            ..PLAIN
+        },
+        status: 1,
+        out: "",
+        err: "qds: line 3, place 1: UnknownRecord\n",
+    },
+    Case {
+        run: Run {
+            words: "check;--scheme=t;",
+            ..PLAIN
+        },
+        status: 1,
+        out: "",
+        err: "qds: scheme line 1, place 1: Form\n",
+    },
+    Case {
+        run: Run {
+            words: "check;--scheme=s;t;",
+            scheme: "=Bar|P:d2\n=Bar|P:d2\n",
+            ..PLAIN
+        },
+        status: 1,
+        out: "",
+        err: "qds: scheme line 2: DuplicateName\n",
+    },
+    Case {
+        run: Run {
+            words: "check;--scheme=u;u;",
+            ..PLAIN
+        },
+        status: 3,
+        out: "",
+        err: "qds: read fault\n",
+    },
+    Case {
+        run: Run {
+            words: "check;u;",
+            ..PLAIN
+        },
+        status: 3,
+        out: "",
+        err: "qds: read fault\n",
+    },
+    Case {
+        run: Run {
+            words: "check;x;y;",
+            ..PLAIN
+        },
+        status: 2,
+        out: "",
+        err: "qds: usage\n",
+    },
+    Case {
+        run: Run { words: "", ..PLAIN },
+        status: 2,
+        out: "",
+        err: "qds: usage\n",
+    },
+    Case {
+        run: Run {
+            input: "==PROTOCOL|1\n",
+            ..PLAIN
+        },
+        status: 1,
+        out: "",
+        err: "qds: after line 1: CutOff\n",
+    },
+    Case {
+        run: Run {
+            words: "fmt;",
+            input: "==PROTOCOL|1\n==TICKER_DATA\nQuote|IBM|1.23456|5|101|7\n",
+            ..PLAIN
+        },
+        status: 1,
+        out: "==PROTOCOL|1\n==TICKER_DATA\n",
+        err: "qds: line 3, place 17: TooFine\n",
+    },
+    Case {
+        run: Run {
+            words: "fmt;",
+            input: "==PROTOCOL|1\n==HISTORY_DATA\nOrder|A|5|32|1|1|1\n",
+            ..PLAIN
+        },
+        status: 1,
+        out: "==PROTOCOL|1\n==HISTORY_DATA\n",
+        err: "qds: line 3, place 11: BadFlags\n",
+    },
+    Case {
+        run: Run {
+            words: "fmt;",
+            input: "==END\n",
+            ..PLAIN
+        },
+        status: 1,
+        out: "",
+        err: "qds: line 1, place 1: Order\n",
     },
 ];
 
 #[test]
-fn scripts_end_and_print_as_they_should(rt: HostRuntime) -> Result<(), Fail> {
+fn runs_end_and_print_as_they_should(rt: HostRuntime) -> Result<(), Fail> {
     let alloc = rt.alloc();
     for case in &CASES {
-        let ran = replayed(alloc, case.script, NONE, NONE)?;
+        let ran = run_program(alloc, case.run)?;
         assert_eq!(rt; ran.status, case.status);
         assert_eq!(rt; ran.out.written(), tabbed(alloc, case.out)?.as_slice());
         assert_eq!(rt; ran.err.written(), tabbed(alloc, case.err)?.as_slice());
@@ -166,47 +274,88 @@ fn scripts_end_and_print_as_they_should(rt: HostRuntime) -> Result<(), Fail> {
 }
 
 #[test]
-fn each_failed_read_is_told(rt: HostRuntime) -> Result<(), Fail> {
+fn each_failed_call_of_the_files_is_told(rt: HostRuntime) -> Result<(), Fail> {
     let alloc = rt.alloc();
-    let first = replayed(alloc, TWO_QUOTES, 0, NONE)?;
+    let run = Run {
+        words: "fmt;--scheme;s;t;",
+        ..PLAIN
+    };
+    // Opens and reads of the scheme, and then of the text, each to its end.
+    for call in 0..6 {
+        let ran = run_program(
+            alloc,
+            Run {
+                file_fails: call,
+                ..run
+            },
+        )?;
+        if ran.status == 0 {
+            assert!(rt; call > 4);
+        } else {
+            assert_eq!(rt; ran.status, 3);
+            assert_eq!(rt; ran.err.written(), b"qds: read fault\n".as_slice());
+        }
+    }
+    Ok(())
+}
+
+#[test]
+fn each_failed_read_of_the_input_is_told(rt: HostRuntime) -> Result<(), Fail> {
+    let alloc = rt.alloc();
+    let first = run_program(
+        alloc,
+        Run {
+            words: "fmt;",
+            read_fails: 0,
+            ..PLAIN
+        },
+    )?;
     assert_eq!(rt; first.status, 3);
     assert_eq!(rt; first.out.written(), b"".as_slice());
-    assert_eq!(rt; first.err.written(), b"qds: read fault\n".as_slice());
-    let second = replayed(alloc, "==PROTOCOL|1\n", 1, NONE)?;
+    let second = run_program(
+        alloc,
+        Run {
+            words: "fmt;",
+            input: "==PROTOCOL|1\n",
+            read_fails: 1,
+            ..PLAIN
+        },
+    )?;
     assert_eq!(rt; second.status, 3);
     assert_eq!(rt; second.out.written(), b"==PROTOCOL\t1\n".as_slice());
+    assert_eq!(rt; second.err.written(), b"qds: read fault\n".as_slice());
     Ok(())
 }
 
 #[test]
 fn each_failed_write_or_flush_is_told(rt: HostRuntime) -> Result<(), Fail> {
     let alloc = rt.alloc();
-    let whole = tabbed(alloc, TWO_QUOTES_OUT)?;
-    for call in 0..2 {
-        let ran = replayed(alloc, TWO_QUOTES, NONE, call)?;
-        assert_eq!(rt; ran.status, 4);
-        assert_eq!(rt; ran.err.written(), b"qds: write fault\n".as_slice());
-        assert!(rt; whole.as_slice().starts_with(ran.out.written()));
+    let input = "==PROTOCOL|1\n==TICKER_ADD_SUBSCRIPTION\nQuote|A\n==TAKE|TICKER|1\n==END\n";
+    for words in ["check;", "fmt;", "replay;"] {
+        for call in 0..2 {
+            let ran = run_program(
+                alloc,
+                Run {
+                    words,
+                    write_fails: call,
+                    ..PLAIN
+                },
+            )?;
+            assert_eq!(rt; ran.status, 4);
+            assert_eq!(rt; ran.err.written(), b"qds: write fault\n".as_slice());
+        }
+        assert_eq!(rt;
+            run_program(
+                alloc,
+                Run {
+                    words,
+                    write_fails: 2,
+                    ..PLAIN
+                }
+            )?
+            .status,
+            0
+        );
     }
-    assert_eq!(rt; replayed(alloc, TWO_QUOTES, NONE, 2)?.status, 0);
-    Ok(())
-}
-
-#[test]
-fn wrong_words_are_refused(rt: HostRuntime) -> Result<(), Fail> {
-    let alloc = rt.alloc();
-    for second in ["x", "--help", ""] {
-        let mut words = Vec::new(alloc);
-        words.push("replay".to_string(alloc)?)?;
-        words.push(second.to_string(alloc)?)?;
-        let ran = asked(alloc, &words, TWO_QUOTES, NONE, NONE)?;
-        assert_eq!(rt; ran.status, 2);
-        assert_eq!(rt; ran.out.written(), b"".as_slice());
-        assert_eq!(rt; ran.err.written(), b"qds: usage\n".as_slice());
-    }
-    assert_eq!(rt;
-        asked(alloc, &Vec::new(alloc), TWO_QUOTES, NONE, NONE)?.status,
-        2
-    );
     Ok(())
 }

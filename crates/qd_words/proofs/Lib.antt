@@ -1,0 +1,4 @@
+pub mod OptionWords
+pub mod RestLaws
+pub mod WordLaws
+mod Rows

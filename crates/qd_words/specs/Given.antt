@@ -1,0 +1,68 @@
+-- What words give one by one: at most one value for each option, at most one positional word.
+use Rattle.std.specs.Prelude.{ℕ, if◌then◌else◌, Bool, true, false, List, [], ◌∷◌, Option, Some, None, option_map, option_and_then, is_some}
+use Rattle.qd_words.specs.declared.ask.Command.{Command}
+use Rattle.qd_words.specs.declared.ask.Name.{Name}
+use Rattle.qd_words.specs.declared.ask.Name.TheVariants.{Scheme}
+use Rattle.qd_words.specs.declared.given.Given.{Given}
+use Rattle.qd_words.specs.Words.{same_text, is_option, end_of_options, name_in, value_in}
+use Rattle.qd_words.specs.Asking.{Asked, name_of, command_of, file_of}
+
+-- the value of the option, the positional word, the option that waits for its value, and whether `--` was among the words
+pub record Shown : Type 0 where
+  pub scheme : Option (List ℕ)
+  pub word : Option (List ℕ)
+  pub waiting : Option Name
+  pub ended : Bool
+
+abbrev pub shown : Given → Shown
+shown g = record { scheme = option_map (λ s. s.now) g.scheme; word = option_map (λ s. s.now) g.word; waiting = g.waiting; ended = g.ended }
+
+abbrev pub nothing : Shown
+nothing = record { scheme = None; word = None; waiting = None; ended = false }
+
+-- a value, where there was none
+abbrev pub once : Option (List ℕ) → Shown → Option Shown
+once None g = Some g
+once (Some value) g = None
+
+abbrev pub with_value : Shown → Name → List ℕ → Option Shown
+with_value g Scheme value = once g.scheme (record g { scheme = Some value })
+
+abbrev pub with_positional : Shown → List ℕ → Option Shown
+with_positional g word = once g.word (record g { word = Some word })
+
+abbrev pub with_waited : Shown → Name → List ℕ → Option Shown
+with_waited g name value = if is_option value then None else with_value (record g { waiting = None }) name value
+
+-- an option, with its value where it has one
+abbrev pub with_named : Shown → Option (List ℕ) → Name → Option Shown
+with_named g None name = Some (record g { waiting = Some name })
+with_named g (Some value) name = with_value g name value
+
+abbrev pub with_option : Shown → List ℕ → Option Shown
+with_option g word = option_and_then (with_named g (value_in word)) (name_of (name_in word))
+
+abbrev pub with_open_word : Shown → Option Name → List ℕ → Option Shown
+with_open_word g (Some name) word = with_waited g name word
+with_open_word g None word =
+    if same_text word end_of_options then Some (record g { ended = true }) else
+    if is_option word then with_option g word else
+    with_positional g word
+
+-- one word more
+abbrev pub with_word : Shown → List ℕ → Option Shown
+with_word g word = if g.ended then with_positional g word else with_open_word g g.waiting word
+
+-- what words give behind those before them
+abbrev pub given_by : Shown → List (List ℕ) → Option Shown
+given_by g [] = Some g
+given_by g (word ∷ words) = option_and_then (λ next. given_by next words) (with_word g word)
+
+-- what was given, once no word is left; none where an option still waits
+abbrev pub finished : Command → Shown → Option Asked
+finished command g = if is_some g.waiting then None else Some (record { command = command; file = file_of g.word; scheme = g.scheme })
+
+-- what words ask for, one by one: the first names the command
+abbrev pub read_asked : List (List ℕ) → Option Asked
+read_asked [] = None
+read_asked (word ∷ words) = option_and_then (λ command. option_and_then (finished command) (given_by nothing words)) (command_of word)

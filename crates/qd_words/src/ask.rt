@@ -1,0 +1,26 @@
+/// What the program can be asked to do.
+#[derive(Clone, Copy, Debug, PartialEq, Eq)]
+pub enum Command {
+    /// Reads a text, and counts its items.
+    Check,
+    /// Prints the canonical line of each item of a text.
+    Fmt,
+    /// Runs a script.
+    Replay,
+}
+
+/// A command with its values.
+#[derive(Clone, Copy)]
+pub struct Ask<'a> {
+    pub command: Command,
+    /// The name of the file that is read; none where it is standard input.
+    pub file: Option<&'a str>,
+    /// The name of the scheme file; none where the built-in scheme is taken.
+    pub scheme: Option<&'a str>,
+}
+
+/// An option.
+#[derive(Clone, Copy, Debug, PartialEq, Eq)]
+pub enum Name {
+    Scheme,
+}

@@ -1,0 +1,57 @@
+//! The names of faults, as the program prints them.
+
+ghost use Rattle.std.specs.Prelude.{◌≡◌};
+ghost use Rattle.qds_tools.specs.FaultLines.{number_name, why_name, limit_name, scheme_name};
+
+use qd_decimal::DecFault;
+use qd_items::Limit;
+use qd_scheme::SchemeWhy;
+use qd_text::Why;
+
+/// The name of a line's fault; a number's fault is told by its own.
+pub fn why_name(why: Why) -> &'static str
+    ensures { result.now ≡ why_name why }
+{
+    match why {
+        Why::Form => "Form",
+        Why::UnknownRecord => "UnknownRecord",
+        Why::SchemeMismatch => "SchemeMismatch",
+        Why::Number(fault) => number_name(fault),
+        Why::BadSymbol => "BadSymbol",
+        Why::BadFlags => "BadFlags",
+        Why::Order => "Order",
+    }
+}
+
+fn number_name(fault: DecFault) -> &'static str
+    ensures { result.now ≡ number_name fault }
+{
+    match fault {
+        DecFault::Empty => "Empty",
+        DecFault::BadByte(_) => "BadByte",
+        DecFault::TooFine(_) => "TooFine",
+        DecFault::TooLarge => "TooLarge",
+    }
+}
+
+pub fn limit_name(limit: Limit) -> &'static str
+    ensures { result.now ≡ limit_name limit }
+{
+    match limit {
+        Limit::TooManyKeys => "TooManyKeys",
+        Limit::TooManySubs => "TooManySubs",
+        Limit::HistoryFull => "HistoryFull",
+    }
+}
+
+pub fn scheme_name(why: SchemeWhy) -> &'static str
+    ensures { result.now ≡ scheme_name why }
+{
+    match why {
+        SchemeWhy::TooManyRecords => "TooManyRecords",
+        SchemeWhy::BadName => "BadName",
+        SchemeWhy::DuplicateName => "DuplicateName",
+        SchemeWhy::TooManyFields => "TooManyFields",
+        SchemeWhy::BadScale => "BadScale",
+    }
+}
