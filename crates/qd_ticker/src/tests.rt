@@ -177,6 +177,19 @@ fn watch(
     Ok(())
 }
 
+/// Makes one call after another.
+fn make_all(
+    rt: &impl Abort,
+    alloc: Global,
+    stripe: &mut TickerStripe,
+    calls: &[Call],
+) -> Result<(), AllocError> {
+    for call in calls {
+        make(rt, alloc, stripe, *call)?;
+    }
+    Ok(())
+}
+
 #[test]
 fn a_take_gives_the_oldest_pending_keys_first_each_with_its_last_record(
     rt: HostRuntime,
@@ -277,9 +290,7 @@ fn a_take_gives_the_oldest_pending_keys_first_each_with_its_last_record(
     ];
     for calls in cases {
         let mut stripe = TickerStripe::new(alloc)?;
-        for call in calls {
-            make(&rt, alloc, &mut stripe, *call)?;
-        }
+        make_all(&rt, alloc, &mut stripe, calls)?;
     }
     Ok(())
 }
