@@ -1,4 +1,3 @@
-pub mod FreshLaws
 pub mod LossLaws
 pub mod WaitingLaws
 pub mod OwedLaws

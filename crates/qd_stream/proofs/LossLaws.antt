@@ -16,7 +16,7 @@ use Rattle.qd_stream.specs.declared.item.StreamItem.{StreamItem}
 use Rattle.qd_stream.specs.Items.{key_of_item, weight}
 use Rattle.qd_stream.specs.Losses.{weight_of}
 use Rattle.qd_stream.specs.Owed.{Loss, losses, is_lost, raised, with_loss}
-use Rattle.qd_stream.proofs.FreshLaws.{fresh-has, fresh-end, but, fresh-but, fresh-first}
+use Rattle.qd_table.proofs.FreshLaws.{fresh-has, fresh-end, but, fresh-but, fresh-first}
 
 abbrev most : ℕ
 most = 18446744073709551615

@@ -49,7 +49,7 @@ use Rattle.qd_stream.specs.Legal.{StreamOp, StreamReply, StreamEntry, terms_of, 
 use Rattle.qd_stream.specs.Stripes.{Shown, name_in, is_named, owed_in, is_owed_in, Agrees, StandsAt, Stands}
 use Rattle.qd_stream.specs.Steps.{SubscribesAll, IsAdded, IsRefused, AddsBy, Adds, IsEndedAt, RemovesAt, RemovesAll, PutsAt, PutsAll, Gives, GivesAll, DropsAll, EndsAll, IsClosed, StepsTo}
 use Rattle.qd_stream.proofs.OwedLaws.{owed-closed, owed-closed_other, taken-owed, is_owed-owes}
-use Rattle.qd_stream.proofs.FreshLaws.{but-alone}
+use Rattle.qd_table.proofs.FreshLaws.{but-alone}
 use Rattle.qd_stream.proofs.NamedLaws.{named-room}
 use Rattle.qd_stream.proofs.ReadyLaws.{box-same, box-other}
 use Rattle.qd_stream.proofs.AgreeLaws.{of, agrees-closed, agrees-same, same-by, renamed-all, loses-told}

@@ -1,5 +1,5 @@
 -- Each call changes one slot, and leaves a sound table.
-use Rattle.std.proofs.Common.{◌≡◌, ◌≢◌, ◌⊎◌, inl, inr, ℕ, suc, ◌<◌, ◌≤◌, ◌+◌, ◌-◌, Bool, true, false, ◌&&◌, ◌||◌, not, if◌then◌else◌, nat_eq, Option, Some, None, is_some, List, length, refl, ap, sym, ◌∙◌, arith, subst}
+use Rattle.std.proofs.Common.{◌≡◌, ◌⊎◌, inl, inr, ℕ, ◌<◌, ◌≤◌, ◌+◌, ◌-◌, Bool, true, false, ◌&&◌, ◌||◌, not, if◌then◌else◌, nat_eq, Option, Some, None, is_some, List, length, refl, ap, sym, ◌∙◌, arith, subst}
 use Rattle.std.proofs.lemmas.Bool.Decides.{nat_tests}
 use Rattle.std.specs.List.{list_any}
 use Rattle.qd_scheme.specs.declared.key.Key.{Key}
@@ -12,14 +12,14 @@ use Rattle.qd_pend.proofs.ListLaws.{same, equal}
 use Rattle.qd_slots.specs.declared.holds.Hold.{Hold}
 use Rattle.qd_slots.specs.declared.holds.Hold.TheVariants.{Free, Kept, Subscribed}
 use Rattle.qd_slots.specs.declared.views.View.{View}
-use Rattle.qd_slots.specs.Holds.{is_subscribed, is_held, is_kept, after_end, more_by, less_by}
-use Rattle.qd_slots.specs.Views.{no_view, view_after, view_told, queued, queued_again}
+use Rattle.qd_slots.specs.Holds.{is_subscribed, is_held, is_kept, after_end, less_by}
+use Rattle.qd_slots.specs.Views.{view_after, view_told, queued, queued_again}
 use Rattle.qd_slots.proofs.NameLaws.{below-or-not}
 use Rattle.qd_slots.proofs.ViewLaws.{queued-out}
 use Rattle.qd_table.specs.Tables.{Table, key_at, slot_for, hold_for, limit_for, total_for, order_of, pairs_in, view_for, queue_of, differs_for, total_to_tell, is_used, holds_by}
-use Rattle.qd_table.specs.Steps.{is_cell, IsSlotFor, KeepsUsed, IsSame, IsSubscribed, IsEnded, IsLetGo, IsTold}
+use Rattle.qd_table.specs.Steps.{is_cell, KeepsUsed, IsSame, IsSubscribed, IsEnded, IsLetGo, IsTold}
 use Rattle.qd_table.specs.Sound.{IsSound, EachPairOnce}
-use Rattle.qd_table.proofs.TableLaws.{true-false, by, Moved, moved, by-moved, by-own, by-same, key_at-found, unused, unused-hold, subscribed-held}
+use Rattle.qd_table.proofs.TableLaws.{true-false, by, Moved, moved, by-moved, by-own, by-same, unused, unused-hold, subscribed-held}
 use Rattle.qd_table.proofs.ListLaws.{queued-as}
 use Rattle.qd_table.proofs.SoundSteps.{IsStep, total_for-same, differs_for-same, is_used-same, used-held, sound-step, counted-same, counted-more, counted-less}
 

@@ -1,5 +1,5 @@
 -- What is read off the cells is what the table says.
-use Rattle.std.proofs.Common.{◌≡◌, ◌≢◌, ◌⊎◌, inl, inr, ℕ, zero, suc, ◌+◌, ◌-◌, ◌<◌, ◌≤◌, Bool, true, false, ◌&&◌, ◌||◌, not, if◌then◌else◌, nat_eq, Option, Some, None, is_some, IfSome, IfNone, List, [], ◌∷◌, length, drop, slice_index, slice_index_or, refl, ap, sym, ◌∙◌, arith, subst}
+use Rattle.std.proofs.Common.{◌≡◌, inl, inr, ℕ, zero, suc, ◌+◌, ◌-◌, ◌<◌, ◌≤◌, Bool, true, false, ◌||◌, if◌then◌else◌, nat_eq, Option, Some, None, is_some, IfSome, IfNone, List, [], ◌∷◌, length, drop, slice_index, slice_index_or, refl, ap, sym, ◌∙◌, arith}
 use Rattle.std.proofs.lemmas.Bool.Decides.{nat_tests}
 use Rattle.std.proofs.lemmas.List.{get_or_past, get_or-drop}
 use Rattle.std.proofs.lemmas.List.Folds.{list_any_at}
@@ -7,18 +7,15 @@ use Rattle.std.specs.List.{list_any, filter_map, cons_option}
 use Rattle.qd_scheme.specs.declared.key.Key.{Key}
 use Rattle.qd_pend.specs.Slots.{has, first_in}
 use Rattle.qd_pend.proofs.ListLaws.{same, equal, has-here}
-use Rattle.qd_sub.specs.Subscriptions.{least}
 use Rattle.qd_sub.proofs.HeldLaws.{least-same}
 use Rattle.qd_slots.specs.declared.holds.Hold.{Hold}
-use Rattle.qd_slots.specs.declared.holds.Hold.TheVariants.{Free, Kept, Subscribed}
+use Rattle.qd_slots.specs.declared.holds.Hold.TheVariants.{Free}
 use Rattle.qd_slots.specs.declared.holds.Cell.{Cell}
-use Rattle.qd_slots.specs.Holds.{no_cell, cell_at, order_at, hold_at, hold_in, limit_in, limits_of, total_in, is_subscribed, is_held, is_kept, is_held_cell, is_wanted_cell, subscribed_from}
-use Rattle.qd_slots.specs.Views.{Viewing, no_viewing, no_view, view_at, viewing_at, is_known_by}
-use Rattle.qd_slots.proofs.HoldLaws.{at-default}
+use Rattle.qd_slots.specs.Holds.{cell_at, order_at, hold_at, hold_in, limit_in, limits_of, total_in, is_subscribed, is_held, is_kept, is_held_cell, is_wanted_cell, subscribed_from}
+use Rattle.qd_slots.specs.Views.{no_viewing, view_at, is_known_by}
 use Rattle.qd_slots.proofs.NameLaws.{below-or-not}
-use Rattle.qd_table.specs.Tables.{Table, slots_in, key_at, slot_for, below, hold_for, limit_for, order_of, total_for, is_wanted_slot, view_for, queue_of, is_used}
+use Rattle.qd_table.specs.Tables.{Table, slots_in, key_at, slot_for, below, hold_for, limit_for, order_of, total_for, is_wanted_slot, view_for, is_used}
 use Rattle.qd_table.specs.Steps.{IsNextAgent}
-use Rattle.qd_table.specs.Sound.{IsSound}
 use Rattle.qd_table.specs.Stored.{Store, table_of, IsStored}
 use Rattle.qd_table.proofs.TableLaws.{or-left, or-right, or-cases, same-truth, true-false, some-none, some-same, below-any, below-found, key_at-within, key_at-found, key_at-subscribed, unused, unused-hold, unused-limit}
 use Rattle.qd_table.proofs.StandLaws.{unused-total, total_for-some}

@@ -1,19 +1,17 @@
 -- Cells, orders, views and names after one of them is set.
-use Rattle.std.proofs.Common.{◌≡◌, ◌≢◌, ◌⊎◌, inl, inr, ℕ, zero, suc, ◌+◌, ◌-◌, ◌<◌, ◌≤◌, Bool, true, false, ◌&&◌, ◌||◌, not, if◌then◌else◌, nat_eq, Option, Some, None, is_some, Result, Ok, Err, OnOk, OnErr, List, [], ◌∷◌, ◌++◌, length, slice_index, slice_index_or, slice_set, get_or-set_other, get_or-set_same, refl, ap, sym, ◌∙◌, arith, subst}
+use Rattle.std.proofs.Common.{◌≡◌, inl, inr, ℕ, zero, suc, ◌+◌, ◌<◌, Bool, true, false, ◌&&◌, if◌then◌else◌, nat_eq, Option, Some, None, Result, Ok, Err, OnOk, OnErr, List, [], ◌∷◌, length, slice_index, slice_index_or, slice_set, get_or-set_other, get_or-set_same, refl, ap, sym, ◌∙◌, arith, subst}
 use Rattle.std.proofs.lemmas.List.{length-set, get_or_past, set-get_or}
-use Rattle.std.specs.List.{list_any, filter_map, cons_option}
+use Rattle.std.specs.List.{cons_option}
 use Rattle.qd_scheme.specs.declared.key.Key.{Key}
-use Rattle.qd_pend.specs.Slots.{SlotList, has, without}
-use Rattle.qd_pend.proofs.ListLaws.{same, equal}
+use Rattle.qd_pend.proofs.ListLaws.{equal}
 use Rattle.qd_slots.specs.declared.holds.Hold.{Hold}
-use Rattle.qd_slots.specs.declared.holds.Hold.TheVariants.{Free, Kept, Subscribed}
+use Rattle.qd_slots.specs.declared.holds.Hold.TheVariants.{Free, Subscribed}
 use Rattle.qd_slots.specs.declared.holds.Cell.{Cell}
-use Rattle.qd_slots.specs.declared.views.View.{View}
 use Rattle.std.specs.declared.alloc.AllocError.{AllocError}
 use Rattle.qd_slots.specs.Names.{NameList, name_at, IsGrown}
 use Rattle.qd_slots.proofs.IndexLaws.{grown-none}
-use Rattle.qd_slots.specs.Holds.{no_cell, no_order, cell_at, order_at, hold_at, hold_in, limit_in, is_subscribed, with_hold, with_limit}
-use Rattle.qd_slots.specs.Views.{Viewing, no_viewing, no_view, view_at, viewing_at, view_after, view_told, view_differs, queued, queued_again, with_total, with_told, EachSaw}
+use Rattle.qd_slots.specs.Holds.{no_cell, cell_at, hold_at, hold_in, limit_in, is_subscribed, with_hold, with_limit}
+use Rattle.qd_slots.specs.Views.{Viewing, no_viewing, no_view, view_at, viewing_at, view_after, view_told, view_differs, queued, queued_again, with_told, EachSaw}
 use Rattle.qd_slots.proofs.NameLaws.{below-or-not}
 use Rattle.qd_table.specs.Stored.{named_in}
 use Rattle.qd_table.proofs.TableLaws.{apart-numbers, some-none}

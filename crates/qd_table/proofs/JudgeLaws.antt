@@ -1,16 +1,16 @@
 -- Counting fresh keys one by one, and what the counts say of a table.
-use Rattle.std.proofs.Common.{◌≡◌, ℕ, zero, suc, ◌+◌, ◌<◌, ◌≤◌, Bool, true, false, ◌&&◌, ◌||◌, not, if◌then◌else◌, nat_eq, nat_lt, Option, Some, None, is_some, Result, Ok, Err, OnOk, IfErr, List, [], ◌∷◌, length, map, drop, slice_index_or, subst, refl, ap, sym, ◌∙◌, arith}
+use Rattle.std.proofs.Common.{◌≡◌, ℕ, suc, ◌+◌, ◌<◌, ◌≤◌, Bool, true, false, ◌&&◌, ◌||◌, if◌then◌else◌, nat_lt, Option, Some, None, is_some, Result, Ok, Err, OnOk, IfErr, List, [], ◌∷◌, length, map, drop, slice_index_or, subst, refl, ap, sym, ◌∙◌, arith}
 use Rattle.std.proofs.lemmas.Bool.Decides.{nat_tests}
 use Rattle.std.proofs.lemmas.List.{drop_more, length-map}
 use Rattle.std.proofs.Math.ListN.{drop_of_length-le}
-use Rattle.std.specs.List.{list_any, filter, filter_map, cons_option}
+use Rattle.std.specs.List.{filter}
 use Rattle.qd_scheme.specs.declared.key.Key.{Key}
 use Rattle.qd_scheme.specs.Keys.{key_eq}
 use Rattle.qd_scheme.proofs.KeyLaws.{key_eq-true}
 use Rattle.qd_sub.specs.declared.sub.Sub.{Sub}
 use Rattle.qd_sub.specs.Holding.{has_key, fresh}
 use Rattle.qd_sub.proofs.OrderLaws.{any-filter}
-use Rattle.qd_slots.specs.Names.{slot_in, slot_from, is_name}
+use Rattle.qd_slots.specs.Names.{slot_in, slot_from}
 use Rattle.qd_slots.specs.Holds.{Holdings, hold_at, is_held}
 use Rattle.qd_table.specs.declared.table.SubFault.{SubFault}
 use Rattle.qd_table.specs.declared.table.SubFault.TheVariants.{TooManyKeys, TooManySubs, NoMemory}
@@ -18,7 +18,7 @@ use Rattle.qd_table.specs.Tables.{Table, slot_for, keys_in, hold_for, holds_by, 
 use Rattle.qd_table.specs.Steps.{IsCause}
 use Rattle.qd_table.specs.Judging.{fresh_count, has_slot, holds_key, seen_or, verdict_for, verdict_of}
 use Rattle.qd_table.specs.Stored.{Store, table_of, named_in, IsStored}
-use Rattle.qd_table.proofs.TableLaws.{true-false, by}
+use Rattle.qd_table.proofs.TableLaws.{by}
 
 pub count-same : (p q : Key → Bool) (ks : List Key) → ((j : Key) → p j ≡ q j) → fresh_count p ks ≡ fresh_count q ks
 unfolding fresh_count

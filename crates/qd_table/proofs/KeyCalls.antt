@@ -1,12 +1,12 @@
 -- What the calls by key say, from what those by slot say.
-use Rattle.std.proofs.Common.{◌≡◌, ◌⊎◌, inl, inr, ℕ, zero, suc, ◌+◌, ◌-◌, ◌*◌, ◌^◌, ◌<◌, ◌≤◌, Bool, true, false, ◌&&◌, ◌||◌, not, if◌then◌else◌, nat_eq, Option, Some, None, is_some, List, [], ◌∷◌, ◌++◌, length, take, drop, slice_index_or, append_assoc, refl, ap, sym, ◌∙◌, arith, subst}
+use Rattle.std.proofs.Common.{◌≡◌, inl, inr, ℕ, zero, suc, ◌+◌, ◌-◌, ◌*◌, ◌^◌, ◌<◌, ◌≤◌, Bool, true, false, ◌&&◌, not, if◌then◌else◌, nat_eq, Option, Some, None, is_some, List, [], ◌∷◌, ◌++◌, length, take, drop, slice_index_or, append_assoc, refl, ap, sym, ◌∙◌, arith, subst}
 use Rattle.std.proofs.lemmas.Bool.Decides.{nat_tests}
 use Rattle.std.proofs.Math.Pow.{pow_mono}
 use Rattle.std.proofs.Math.Nat.{pow-suc}
 use Rattle.std.proofs.lemmas.List.{append-nil, length-append, drop_more}
 use Rattle.std.proofs.Math.ListN.{drop_of_length-le}
 use Rattle.std.proofs.lemmas.List.Elements.{filter_map-append}
-use Rattle.std.specs.List.{list_any, filter, filter_map, cons_option}
+use Rattle.std.specs.List.{filter_map, cons_option}
 use Rattle.qd_scheme.specs.declared.key.Key.{Key}
 use Rattle.qd_buffer.specs.Filled.{Filled, with_items}
 use Rattle.qd_sub.specs.declared.sub.Sub.{Sub}
@@ -17,10 +17,10 @@ use Rattle.qd_slots.specs.declared.holds.Hold.{Hold}
 use Rattle.qd_slots.specs.declared.holds.Hold.TheVariants.{Free, Kept, Subscribed}
 use Rattle.qd_slots.specs.Holds.{is_subscribed, is_held, is_kept}
 use Rattle.qd_slots.specs.Views.{queued_again}
-use Rattle.qd_table.specs.Tables.{Table, slots_in, key_at, slot_for, below, hold_for, limit_for, order_of, total_for, is_wanted_slot, queue_of, differs_for, is_used, limit_by, total_by, bit_at, bits_from, agent_bits, first_key, is_wanted_key, becomes_unwanted, total_to_tell, want_for, wants_for, wants_at, slot_after}
+use Rattle.qd_table.specs.Tables.{Table, slots_in, key_at, slot_for, hold_for, limit_for, order_of, total_for, is_wanted_slot, queue_of, differs_for, is_used, limit_by, total_by, bit_at, bits_from, agent_bits, first_key, is_wanted_key, becomes_unwanted, total_to_tell, want_for, wants_for, wants_at, slot_after}
 use Rattle.qd_table.specs.Steps.{IsEnded, IsLetGo, IsTold, ToldFirst, IsSubscribed, EndsAll, LetsAllGo, TellsAll, SubscribesAll}
 use Rattle.qd_table.specs.Sound.{IsSound}
-use Rattle.qd_table.proofs.TableLaws.{or-left, or-right, or-cases, some-from, true-false, some-none, some-same, by, apart-numbers, wanted-subscriber, wanted-someone, unused-hold, key_at-used, used-agent, key_at-found, key_at-within}
+use Rattle.qd_table.proofs.TableLaws.{or-left, or-right, or-cases, some-from, true-false, some-none, some-same, by, wanted-subscriber, wanted-someone, unused-hold, key_at-used, used-agent, key_at-found, key_at-within}
 use Rattle.qd_table.proofs.CallSteps.{kept-moved}
 use Rattle.qd_table.proofs.StandLaws.{differs-used}
 use Rattle.qd_table.proofs.StandSteps.{by-new}

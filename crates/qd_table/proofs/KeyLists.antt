@@ -1,5 +1,5 @@
 -- The keys of a list of slots, after a slot joins it or leaves it.
-use Rattle.std.proofs.Common.{◌≡◌, ℕ, Bool, true, false, ◌&&◌, ◌||◌, not, if◌then◌else◌, nat_eq, Option, Some, None, List, [], ◌∷◌, ◌++◌, refl, ap, sym, ◌∙◌, arith}
+use Rattle.std.proofs.Common.{◌≡◌, ℕ, Bool, true, false, ◌||◌, not, if◌then◌else◌, nat_eq, Option, Some, None, List, [], ◌∷◌, ◌++◌, refl, ap, sym, ◌∙◌}
 use Rattle.std.proofs.lemmas.List.{append-nil}
 use Rattle.std.proofs.lemmas.List.Elements.{filter_map-append}
 use Rattle.std.specs.List.{list_any, filter, filter_map, cons_option}
@@ -9,10 +9,10 @@ use Rattle.qd_scheme.proofs.KeyLaws.{key_eq-same, key_eq-true}
 use Rattle.qd_sub.specs.Holding.{has_key}
 use Rattle.qd_sub.proofs.SinceLaws.{grown}
 use Rattle.qd_pend.specs.Slots.{has, without}
-use Rattle.qd_pend.proofs.ListLaws.{same, equal, has-less, has-without_same, has-here, has-later}
+use Rattle.qd_pend.proofs.ListLaws.{same, equal, has-without_same, has-here, has-later}
 use Rattle.qd_slots.specs.Views.{queued, queued_again}
 use Rattle.qd_table.specs.Tables.{Table, key_at, keys_at}
-use Rattle.qd_table.proofs.TableLaws.{true-false, some-none, some-same, or-left, or-right}
+use Rattle.qd_table.proofs.TableLaws.{true-false, some-none, some-same, or-left}
 
 -- tables that agree on the slots of a list
 pub keys-agree : (new old : Table) (list : List ℕ) → ((i : ℕ) → has list i ≡ true → key_at new i ≡ key_at old i) → keys_at new list ≡ keys_at old list

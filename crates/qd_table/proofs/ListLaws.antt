@@ -1,12 +1,12 @@
 -- Lists of different slots and of different pairs.
-use Rattle.std.proofs.Common.{◌≡◌, ◌≢◌, ℕ, zero, suc, Bool, true, false, ◌&&◌, ◌||◌, not, if◌then◌else◌, nat_eq, Option, Some, None, List, [], ◌∷◌, ◌++◌, length, refl, ap, sym, subst, ◌∙◌, arith}
+use Rattle.std.proofs.Common.{◌≡◌, ◌≢◌, ℕ, zero, suc, Bool, true, false, ◌&&◌, ◌||◌, not, if◌then◌else◌, nat_eq, Option, List, [], ◌∷◌, ◌++◌, length, refl, ap, sym, subst, ◌∙◌}
 use Rattle.std.proofs.lemmas.List.{append-nil}
 use Rattle.std.specs.List.{list_any, filter, filter_map}
 use Rattle.qd_scheme.specs.declared.key.Key.{Key}
-use Rattle.qd_sub.proofs.OrderLaws.{once, once-filter, any-filter}
-use Rattle.qd_sub.proofs.StepLaws.{pair_eq, pair_eq-true, pair_eq-comm, pair_eq-same}
+use Rattle.qd_sub.proofs.OrderLaws.{once}
+use Rattle.qd_sub.proofs.StepLaws.{pair_eq, pair_eq-true}
 use Rattle.qd_pend.specs.Slots.{has, without, EachOnce}
-use Rattle.qd_pend.proofs.ListLaws.{same, equal, unequal, without-absent, has-without, has-without_same, EachOnce-without, EachOnce-push, has-push}
+use Rattle.qd_pend.proofs.ListLaws.{same, unequal, without-absent, has-without, has-without_same, EachOnce-without, EachOnce-push, has-push}
 use Rattle.qd_slots.specs.Views.{queued, queued_again}
 use Rattle.qd_table.specs.Tables.{below}
 use Rattle.qd_table.specs.Sound.{EachPairOnce}

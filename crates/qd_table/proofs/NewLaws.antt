@@ -1,22 +1,22 @@
 -- A table without slots.
-use Rattle.std.proofs.Common.{◌≡◌, ℕ, ◌+◌, ◌^◌, ◌<◌, ◌≤◌, Bool, true, false, ◌||◌, Option, Some, None, is_some, List, [], ◌∷◌, length, replicate, refl, ap, sym, ◌∙◌, arith, subst}
+use Rattle.std.proofs.Common.{◌≡◌, ℕ, false, ◌||◌, None, is_some, List, [], ◌∷◌, length, replicate, refl, ap, sym, ◌∙◌, arith, subst}
 use Rattle.std.specs.List.{list_any}
 use Rattle.qd_scheme.specs.declared.key.Key.{Key}
-use Rattle.qd_sub.specs.Acts.{Moment, is_pair}
+use Rattle.qd_sub.specs.Acts.{is_pair}
 use Rattle.qd_sub.specs.Since.{by_since, begun_within}
 use Rattle.qd_sub.specs.Subscriptions.{limit_of, subscribed}
 use Rattle.qd_sub.specs.Watching.{known, lapsed}
 use Rattle.qd_pend.specs.Slots.{SlotList, has, EachOnce}
 use Rattle.qd_slots.specs.declared.holds.Hold.TheVariants.{Free}
 use Rattle.qd_slots.specs.Names.{NameList, slot_from}
-use Rattle.qd_slots.specs.Holds.{Holdings, no_order, cell_at, order_at, hold_at, is_subscribed, is_held, is_kept}
-use Rattle.qd_slots.specs.Views.{Viewing, no_viewing, no_view, view_at, viewing_at, view_differs}
+use Rattle.qd_slots.specs.Holds.{Holdings, no_order, is_subscribed, is_held}
+use Rattle.qd_slots.specs.Views.{Viewing, no_viewing, no_view, view_at, view_differs}
 use Rattle.qd_slots.proofs.HoldLaws.{at-replicate, holding-new}
 use Rattle.qd_sub.proofs.StepLaws.{pair_eq-same}
-use Rattle.qd_table.specs.Tables.{Table, no_table, key_at, keys_at, slot_for, below, hold_for, limit_for, total_for, order_of, view_for, queue_of, differs_for, is_used, limit_by, holds_by, known_by, outdated_by, pairs_in}
-use Rattle.qd_table.specs.Sound.{IsSound, EachPairOnce}
+use Rattle.qd_table.specs.Tables.{no_table, key_at, keys_at, slot_for, below, hold_for, limit_for, total_for, order_of, view_for, queue_of, differs_for, is_used, limit_by, holds_by, known_by, outdated_by, pairs_in}
+use Rattle.qd_table.specs.Sound.{IsSound}
 use Rattle.qd_table.specs.Standing.{StandsFor}
-use Rattle.qd_table.specs.Stored.{Store, table_of, IsStored}
+use Rattle.qd_table.specs.Stored.{Store, IsStored}
 use Rattle.qd_table.proofs.TableLaws.{true-false, or-left, some-none, below-none}
 use Rattle.qd_table.proofs.StandLaws.{none-total}
 

@@ -1,23 +1,20 @@
 -- What is read off the parts is what the table shows.
-use Rattle.std.proofs.Common.{◌≡◌, ◌⊎◌, inl, inr, ℕ, ◌<◌, ◌≤◌, Bool, true, false, nat_eq, not, if◌then◌else◌, Option, Some, None, is_some, IfSome, IfNone, List, length, drop, refl, ap, sym, ◌∙◌, arith, subst}
+use Rattle.std.proofs.Common.{◌≡◌, inl, inr, ℕ, ◌<◌, ◌≤◌, Bool, true, false, nat_eq, if◌then◌else◌, Option, Some, None, is_some, IfSome, IfNone, length, drop, refl, ap, sym, ◌∙◌, arith, subst}
 use Rattle.std.proofs.lemmas.List.{get_or_past}
 use Rattle.qd_scheme.specs.declared.key.Key.{Key}
 use Rattle.qd_pend.proofs.ListLaws.{equal}
-use Rattle.qd_sub.specs.declared.sub.Want.{Want}
-use Rattle.qd_pend.specs.Slots.{has, first_in}
+use Rattle.qd_pend.specs.Slots.{first_in}
 use Rattle.qd_slots.specs.declared.holds.Hold.{Hold}
-use Rattle.qd_slots.specs.declared.holds.Hold.TheVariants.{Free, Kept, Subscribed}
-use Rattle.qd_slots.specs.declared.views.View.{View}
 use Rattle.qd_slots.specs.Names.{slot_in, name_at}
 use Rattle.qd_slots.specs.Holds.{cell_at, order_at, hold_at, limit_in, total_in, is_subscribed, is_kept, is_wanted_cell, subscribed_from}
 use Rattle.qd_slots.specs.Views.{view_at, viewing_at, HasSlot}
 use Rattle.qd_slots.proofs.NameLaws.{below-or-not}
-use Rattle.qd_table.specs.Tables.{Table, slots_in, key_at, slot_for, hold_for, limit_for, order_of, total_for, is_wanted_slot, view_for, queue_of, room_for, total_to_tell, want_for}
+use Rattle.qd_table.specs.Tables.{Table, slots_in, key_at, slot_for, hold_for, limit_for, order_of, total_for, is_wanted_slot, view_for, queue_of, room_for}
 use Rattle.qd_table.specs.Steps.{IsNextAgent}
 use Rattle.qd_table.specs.Sound.{IsSound}
 use Rattle.qd_table.specs.Stored.{Store, table_of, IsStored}
-use Rattle.qd_table.proofs.TableLaws.{true-false, some-none, key_at-within}
-use Rattle.qd_table.proofs.CellLaws.{wanted-cell, total-cell, next-agent, no-next-agent, beyond-hold, beyond-limit, beyond-total, beyond-wanted, slot-within, some-within, some-named, first-subscribed, first-kept, first-unkept}
+use Rattle.qd_table.proofs.TableLaws.{true-false, key_at-within}
+use Rattle.qd_table.proofs.CellLaws.{wanted-cell, total-cell, next-agent, no-next-agent, beyond-hold, beyond-limit, beyond-total, beyond-wanted, slot-within, first-subscribed, first-kept, first-unkept}
 
 pub tell-slot : {s : Store} {now : Table} → IsStored s → table_of s ≡ now → (k : Key) (o : Option ℕ) → o ≡ slot_in s.names.names k → o ≡ slot_for now k
 unfolding slot_for

@@ -1,27 +1,20 @@
 -- A table that is sound is so after each call.
-use Rattle.std.proofs.Common.{◌≡◌, ◌≢◌, ◌⊎◌, inl, inr, ℕ, suc, ◌<◌, ◌≤◌, ◌+◌, ◌-◌, Bool, true, false, ◌&&◌, ◌||◌, not, if◌then◌else◌, nat_eq, Option, Some, None, is_some, List, [], ◌∷◌, length, refl, ap, sym, ◌∙◌, arith, subst}
-use Rattle.std.specs.List.{list_any, filter, filter_map}
+use Rattle.std.proofs.Common.{◌≡◌, ◌⊎◌, inl, inr, ℕ, ◌<◌, ◌≤◌, ◌+◌, ◌-◌, Bool, true, false, ◌&&◌, ◌||◌, not, if◌then◌else◌, nat_eq, Some, is_some, List, ◌∷◌, length, refl, ap, sym, ◌∙◌, arith, subst}
+use Rattle.std.specs.List.{list_any, filter}
 use Rattle.qd_scheme.specs.declared.key.Key.{Key}
-use Rattle.qd_scheme.specs.Keys.{key_eq}
-use Rattle.qd_scheme.proofs.KeyLaws.{key_eq-same, key_eq-true}
 use Rattle.qd_sub.specs.Acts.{is_pair}
 use Rattle.qd_sub.specs.Subscriptions.{least}
-use Rattle.qd_sub.proofs.OrderLaws.{once, once-filter, any-filter}
+use Rattle.qd_sub.proofs.OrderLaws.{once-filter, any-filter}
 use Rattle.qd_sub.proofs.StepLaws.{pair_eq, pair_eq-true, pair_eq-comm, pair_eq-same}
-use Rattle.qd_pend.specs.Slots.{has, without, EachOnce}
-use Rattle.qd_pend.proofs.ListLaws.{same, equal, unequal}
-use Rattle.qd_slots.specs.declared.holds.Hold.{Hold}
-use Rattle.qd_slots.specs.declared.holds.Hold.TheVariants.{Free, Kept, Subscribed}
-use Rattle.qd_slots.specs.declared.views.View.{View}
-use Rattle.qd_slots.specs.Holds.{is_subscribed, is_held, is_kept, after_end, more_by, less_by}
-use Rattle.qd_slots.specs.Views.{no_view, view_after, view_told, view_differs, queued, queued_again}
-use Rattle.qd_slots.proofs.NameLaws.{below-or-not}
-use Rattle.qd_slots.proofs.ViewLaws.{queued-out}
+use Rattle.qd_pend.specs.Slots.{has, EachOnce}
+use Rattle.qd_pend.proofs.ListLaws.{equal}
+use Rattle.qd_slots.specs.declared.holds.Hold.TheVariants.{Free}
+use Rattle.qd_slots.specs.Holds.{is_subscribed, is_held}
+use Rattle.qd_slots.specs.Views.{no_view, view_differs, queued, queued_again}
 use Rattle.qd_table.specs.Tables.{Table, key_at, slot_for, below, hold_for, limit_for, total_for, order_of, pairs_in, view_for, queue_of, differs_for, is_used, holds_by}
-use Rattle.qd_table.specs.Steps.{is_cell, IsSlotFor, KeepsUsed, IsSubscribed, IsEnded, IsLetGo, IsTold}
 use Rattle.qd_table.specs.Sound.{IsSound, EachPairOnce}
-use Rattle.qd_table.proofs.TableLaws.{or-left, or-right, same-truth, true-false, some-none, apart-numbers, below-any, below-same, by, Moved, moved, by-moved, by-own, by-same, key_at-found, unused, unused-hold, subscribed-held}
-use Rattle.qd_table.proofs.ListLaws.{queued-other, queued-own, queued-once, queued-as, again-other, again-own, again-once, gives-same, once-each, each-once, length-less}
+use Rattle.qd_table.proofs.TableLaws.{or-left, apart-numbers, below-any, below-same}
+use Rattle.qd_table.proofs.ListLaws.{queued-other, queued-own, queued-once, again-other, again-own, again-once, gives-same, once-each, each-once, length-less}
 
 and-false : (b : Bool) → (b && false) ≡ false
 and-false true = refl

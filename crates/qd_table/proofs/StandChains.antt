@@ -1,25 +1,25 @@
 -- After a call over many keys a table stands for the moment with all of its acts.
-use Rattle.std.proofs.Common.{◌≡◌, ◌⊎◌, inl, inr, ℕ, zero, suc, ◌<◌, ◌≤◌, Bool, true, false, ◌&&◌, ◌||◌, not, if◌then◌else◌, nat_eq, Option, Some, None, is_some, List, [], ◌∷◌, ◌++◌, map, take, refl, ap, sym, ◌∙◌, arith, subst}
+use Rattle.std.proofs.Common.{◌≡◌, inl, inr, ℕ, zero, suc, ◌<◌, Bool, true, false, ◌&&◌, ◌||◌, not, if◌then◌else◌, nat_eq, Option, Some, None, is_some, List, [], ◌∷◌, ◌++◌, map, take, refl, ap, sym, ◌∙◌, subst}
 use Rattle.std.specs.List.{filter_map, cons_option}
 use Rattle.qd_scheme.specs.declared.key.Key.{Key}
 use Rattle.qd_scheme.specs.Keys.{key_eq}
 use Rattle.qd_scheme.proofs.KeyLaws.{key_eq-same}
 use Rattle.qd_sub.specs.declared.sub.Sub.{Sub}
 use Rattle.qd_sub.specs.declared.sub.Want.{Want}
-use Rattle.qd_sub.specs.Acts.{Act, Subscribed, Unsubscribed, Closed, Told, Moment, is_pair}
+use Rattle.qd_sub.specs.Acts.{Subscribed, Unsubscribed, Closed, Told, Moment, is_pair}
 use Rattle.qd_sub.specs.Holding.{has_key}
 use Rattle.qd_sub.specs.Logs.{after, ends_of}
-use Rattle.qd_sub.specs.Subscriptions.{limit_of, subscribed, keys_of}
+use Rattle.qd_sub.specs.Subscriptions.{subscribed, keys_of}
 use Rattle.qd_sub.specs.Watching.{watched}
 use Rattle.qd_sub.proofs.StepLaws.{pair_eq-true, keys_of-has}
 use Rattle.qd_pend.specs.Slots.{has, EachOnce}
 use Rattle.qd_pend.proofs.ListLaws.{same, equal, has-here, has-later}
 use Rattle.qd_slots.specs.declared.holds.Hold.{Hold}
 use Rattle.qd_slots.specs.declared.holds.Hold.TheVariants.{Free, Kept, Subscribed as Active}
-use Rattle.qd_slots.specs.Holds.{is_subscribed, is_held, is_kept}
+use Rattle.qd_slots.specs.Holds.{is_held, is_kept}
 use Rattle.qd_slots.specs.Views.{view_told}
-use Rattle.qd_table.specs.Tables.{Table, key_at, keys_at, slot_for, hold_for, order_of, total_for, view_for, queue_of, is_used, total_to_tell, want_for, wants_for, holds_by}
-use Rattle.qd_table.specs.Steps.{IsSame, IsSubscribed, IsEnded, IsLetGo, IsTold, IsAdded, IsRemoved, IsClosed, LetsGo, SubscribesAll, EndsAll, LetsAllGo, TellsAll}
+use Rattle.qd_table.specs.Tables.{Table, key_at, keys_at, slot_for, hold_for, order_of, total_for, view_for, queue_of, is_used, total_to_tell, want_for, wants_for}
+use Rattle.qd_table.specs.Steps.{IsEnded, IsTold, IsAdded, IsRemoved, IsClosed, SubscribesAll, EndsAll, LetsAllGo, TellsAll}
 use Rattle.qd_table.specs.Standing.{StandsFor}
 use Rattle.qd_table.proofs.TableLaws.{true-false, or-left, or-right, or-cases, some-from, key_at-found, key_at-subscribed, key_at-used, used-agent}
 use Rattle.qd_table.proofs.SoundSteps.{total_for-same}

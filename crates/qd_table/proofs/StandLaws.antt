@@ -1,13 +1,11 @@
 -- What a table says of a moment for which it stands.
-use Rattle.std.proofs.Common.{◌≡◌, ◌⊎◌, inl, inr, ℕ, zero, suc, ◌<◌, ◌≤◌, Bool, true, false, ◌&&◌, ◌||◌, not, if◌then◌else◌, nat_eq, Option, Some, None, is_some, List, [], ◌∷◌, refl, ap, sym, ◌∙◌, arith, map, take}
+use Rattle.std.proofs.Common.{◌≡◌, ℕ, zero, suc, ◌<◌, Bool, true, false, ◌&&◌, ◌||◌, not, if◌then◌else◌, nat_eq, Option, Some, None, is_some, List, [], ◌∷◌, refl, ap, sym, ◌∙◌, map, take}
 use Rattle.std.specs.List.{list_any, filter_map, cons_option}
 use Rattle.qd_scheme.specs.declared.key.Key.{Key}
-use Rattle.qd_scheme.specs.Keys.{key_eq}
 use Rattle.qd_pend.specs.Slots.{has}
 use Rattle.qd_pend.proofs.ListLaws.{same, has-here, has-later}
 use Rattle.qd_sub.specs.declared.sub.Want.{Want}
-use Rattle.qd_sub.specs.Acts.{Act, Moment, is_told, newest_key}
-use Rattle.qd_sub.specs.Since.{by_since}
+use Rattle.qd_sub.specs.Acts.{Moment}
 use Rattle.qd_sub.specs.Subscriptions.{limit_of, subscribed, wanted, total, least}
 use Rattle.qd_sub.specs.Watching.{known, is_outdated, differs, same_total, want_of, watched}
 use Rattle.qd_sub.proofs.HeldLaws.{total-by}
@@ -16,10 +14,10 @@ use Rattle.qd_slots.specs.declared.holds.Hold.{Hold}
 use Rattle.qd_slots.specs.declared.holds.Hold.TheVariants.{Free, Kept, Subscribed}
 use Rattle.qd_slots.specs.Holds.{is_subscribed, is_held, is_kept}
 use Rattle.qd_slots.specs.Views.{view_differs}
-use Rattle.qd_table.specs.Tables.{Table, key_at, keys_at, slot_for, below, hold_for, limit_for, order_of, total_for, is_wanted_slot, view_for, queue_of, differs_for, is_used, limit_by, holds_by, total_by, known_by, outdated_by, total_to_tell, want_for, wants_for}
+use Rattle.qd_table.specs.Tables.{Table, key_at, keys_at, slot_for, below, hold_for, limit_for, total_for, is_wanted_slot, view_for, queue_of, differs_for, is_used, limit_by, holds_by, total_by, known_by, outdated_by, total_to_tell, want_for, wants_for}
 use Rattle.qd_table.specs.Sound.{IsSound}
 use Rattle.qd_table.specs.Standing.{StandsFor}
-use Rattle.qd_table.proofs.TableLaws.{true-false, some-none, some-from, same-truth, or-left, or-right, by, below-any, below-same, limit_for-some, subscribed-held, key_at-found, used-agent, key_at-used, key_at-subscribed, wanted-subscriber, wanted-someone, unused-view, unused-limit}
+use Rattle.qd_table.proofs.TableLaws.{true-false, some-from, by, below-any, below-same, limit_for-some, subscribed-held, key_at-found, wanted-subscriber, wanted-someone, unused-view, unused-limit}
 use Rattle.qd_table.proofs.ListLaws.{gives-same}
 use Rattle.qd_table.proofs.CallSteps.{agent-within}
 

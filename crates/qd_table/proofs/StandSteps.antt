@@ -1,36 +1,31 @@
 -- After each call a table stands for the moment with the call's act.
-use Rattle.std.proofs.Common.{◌≡◌, ◌⊎◌, inl, inr, ℕ, ◌<◌, ◌≤◌, Bool, true, false, ◌&&◌, ◌||◌, not, if◌then◌else◌, nat_eq, Option, Some, None, is_some, List, [], ◌∷◌, ◌++◌, refl, ap, sym, ◌∙◌, arith, subst}
+use Rattle.std.proofs.Common.{◌≡◌, inl, inr, ℕ, ◌<◌, Bool, true, false, ◌&&◌, ◌||◌, not, if◌then◌else◌, nat_eq, Option, Some, None, is_some, ◌∷◌, refl, ap, sym, ◌∙◌}
 use Rattle.std.specs.List.{filter}
 use Rattle.qd_scheme.specs.declared.key.Key.{Key}
 use Rattle.qd_scheme.specs.Keys.{key_eq}
-use Rattle.qd_scheme.proofs.KeyLaws.{key_eq-same, key_eq-true}
+use Rattle.qd_scheme.proofs.KeyLaws.{key_eq-true}
 use Rattle.qd_pend.specs.Slots.{has, without}
 use Rattle.qd_pend.proofs.ListLaws.{same, equal}
-use Rattle.qd_sub.specs.Acts.{Act, Subscribed, Unsubscribed, Closed, Came, Gave, Told, Full, Moment, is_pair, is_told, newest_key}
-use Rattle.qd_sub.specs.Since.{by_since}
-use Rattle.qd_sub.specs.Subscriptions.{limit_of, subscribed, keys_of, wanted, total}
+use Rattle.qd_sub.specs.Acts.{Subscribed, Unsubscribed, Moment, is_pair}
+use Rattle.qd_sub.specs.Subscriptions.{limit_of, subscribed, keys_of, wanted}
 use Rattle.qd_sub.specs.Watching.{known, is_outdated, differs}
-use Rattle.qd_sub.proofs.SinceLaws.{grown, by_since-same}
+use Rattle.qd_sub.proofs.SinceLaws.{grown}
 use Rattle.qd_sub.proofs.SubscriptionLaws.{subscribed-sub, subscribed-unsub, wanted-subscribed, known-sub, known-unsub}
-use Rattle.qd_sub.proofs.StepLaws.{subscribed-told, keys_of-sub, keys_of-unsub, keys_of-told, pair_eq-true, pair_eq-same}
-use Rattle.qd_sub.proofs.HeldLaws.{limit_of-sub, limit_of-unsub, limit_of-quiet, total-same, total-quiet, wanted-same, wanted-about}
-use Rattle.qd_sub.proofs.WatchLaws.{differing-told, wanted-told, total-told, known-told_other}
-use Rattle.qd_sub.proofs.WatchSteps.{outdated-same, outdated-wanted, outdated-unwanted, outdated-told, differs-same, differing-about, differing-same, differing-told_other}
-use Rattle.qd_slots.specs.declared.holds.Hold.{Hold}
-use Rattle.qd_slots.specs.declared.holds.Hold.TheVariants.{Free, Kept, Subscribed as Active}
-use Rattle.qd_slots.specs.declared.views.View.{View}
-use Rattle.qd_slots.specs.Holds.{is_subscribed, is_held, is_kept, after_end}
-use Rattle.qd_slots.specs.Views.{no_view, view_after, view_told, queued, queued_again}
+use Rattle.qd_sub.proofs.StepLaws.{keys_of-sub, keys_of-unsub}
+use Rattle.qd_sub.proofs.HeldLaws.{limit_of-sub, limit_of-unsub, wanted-about}
+use Rattle.qd_sub.proofs.WatchSteps.{outdated-same, outdated-wanted, outdated-unwanted, differing-about}
+use Rattle.qd_slots.specs.declared.holds.Hold.TheVariants.{Subscribed as Active}
+use Rattle.qd_slots.specs.Holds.{is_subscribed, is_held}
+use Rattle.qd_slots.specs.Views.{no_view, view_after, queued}
 use Rattle.qd_slots.proofs.ViewLaws.{queued-out}
-use Rattle.qd_table.specs.Tables.{Table, key_at, keys_at, slot_for, hold_for, limit_for, order_of, total_for, is_wanted_slot, view_for, queue_of, differs_for, total_to_tell, is_used, limit_by, holds_by, known_by, outdated_by}
-use Rattle.qd_table.specs.Steps.{is_cell, IsSlotFor, KeepsUsed, IsSame, IsSubscribed, IsEnded, IsLetGo, IsTold}
+use Rattle.qd_table.specs.Tables.{Table, key_at, keys_at, slot_for, hold_for, limit_for, order_of, total_for, view_for, queue_of, differs_for, is_used, limit_by, holds_by, known_by, outdated_by}
+use Rattle.qd_table.specs.Steps.{is_cell, IsSlotFor, KeepsUsed, IsSubscribed, IsEnded}
 use Rattle.qd_table.specs.Sound.{IsSound}
 use Rattle.qd_table.specs.Standing.{StandsFor}
-use Rattle.qd_table.proofs.TableLaws.{true-false, some-none, some-same, none-from, or-left, or-right, by, Moved, by-moved, by-own, by-same, limit_for-some, subscribed-held, key_at-found, used-agent, key_at-used, unused, unused-hold, unused-view, unused-limit}
-use Rattle.qd_table.proofs.SoundSteps.{total_for-same, differs_for-same}
-use Rattle.qd_table.proofs.CallSteps.{cell-here, cell-elsewhere, agent-within, pair-set, subscribed-moved, kept-moved, ended-hold, ended-held, go-held, told-held, sound-subscribed, sound-ended, sound-let_go, sound-told, sound-same}
-use Rattle.qd_table.proofs.KeyLists.{IsOwn, keys-agree, keys-queued, keys-again}
-use Rattle.qd_table.proofs.StandLaws.{limit_by-at, outdated_by-at, known_by-at, subscribed-table, wanted-at, total_for-some, total-at, differs-at, differs-used, tell-table}
+use Rattle.qd_table.proofs.TableLaws.{true-false, some-none, some-same, or-left, by, Moved, by-moved, by-same, limit_for-some, subscribed-held, key_at-found, used-agent, key_at-used, unused, unused-hold, unused-view, unused-limit}
+use Rattle.qd_table.proofs.CallSteps.{agent-within, pair-set, subscribed-moved, kept-moved, ended-held, sound-subscribed, sound-ended}
+use Rattle.qd_table.proofs.KeyLists.{IsOwn, keys-agree, keys-queued}
+use Rattle.qd_table.proofs.StandLaws.{outdated_by-at, known_by-at, wanted-at, total_for-some, total-at, differs-at, differs-used}
 
 -- a slot that is used is its key's
 pub own-used : (t : Table) (k : Key) (slot : ℕ) → IsSound t → IsSlotFor t k slot → is_used t slot ≡ true → key_at t slot ≡ Some k

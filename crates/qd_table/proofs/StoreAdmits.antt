@@ -1,23 +1,21 @@
 -- What is judged and reserved leaves a table as it was, with more room.
-use Rattle.std.proofs.Common.{◌≡◌, ◌⊎◌, inl, inr, ℕ, zero, suc, ◌+◌, ◌-◌, ◌^◌, ◌<◌, ◌≤◌, Bool, true, false, if◌then◌else◌, nat_eq, Option, Some, None, Result, Ok, Err, OnOk, OnErr, List, [], ◌∷◌, ◌++◌, length, replicate, slice_index, slice_index_or, refl, ap, sym, ◌∙◌, arith, subst}
+use Rattle.std.proofs.Common.{◌≡◌, ◌⊎◌, inl, inr, ℕ, zero, suc, ◌+◌, ◌-◌, ◌^◌, ◌<◌, ◌≤◌, if◌then◌else◌, Option, Some, None, List, [], ◌∷◌, ◌++◌, length, slice_index, refl, ap, sym, ◌∙◌, arith, subst}
 use Rattle.std.proofs.lemmas.List.{length-append, get_or_past, get_or_append_left, get_or-append_right}
 use Rattle.qd_scheme.specs.declared.key.Key.{Key}
-use Rattle.qd_pend.specs.Slots.{SlotList, has}
-use Rattle.qd_slots.specs.declared.holds.Hold.{Hold}
-use Rattle.qd_slots.specs.declared.holds.Hold.TheVariants.{Free, Kept, Subscribed}
+use Rattle.qd_pend.specs.Slots.{has}
+use Rattle.qd_slots.specs.declared.holds.Hold.TheVariants.{Free}
 use Rattle.qd_slots.specs.declared.holds.Cell.{Cell}
 use Rattle.qd_slots.specs.declared.views.View.{View}
 use Rattle.qd_slots.specs.Names.{NameList, slot_in, name_at, nones, IsGrown}
-use Rattle.qd_slots.specs.Holds.{no_cell, no_order, free_cell, free_cells, cell_at, order_at, hold_at, hold_in, limit_in, is_subscribed, is_kept, IsHolding, IsRoomier}
+use Rattle.qd_slots.specs.Holds.{no_cell, free_cell, free_cells, cell_at, order_at, hold_at, hold_in, limit_in, is_subscribed, is_kept, IsHolding, IsRoomier}
 use Rattle.qd_slots.specs.Kept.{KeepsRoom}
-use Rattle.qd_slots.specs.Views.{Viewing, no_viewing, no_view, no_views, view_at, viewing_at, HasSlots, IsWider, EachWider}
+use Rattle.qd_slots.specs.Views.{Viewing, no_viewing, no_view, no_views, view_at, viewing_at, HasSlots, EachWider}
 use Rattle.qd_slots.proofs.NameLaws.{below-or-not, slot_in-grown, name_at-grown}
 use Rattle.qd_slots.proofs.HoldLaws.{free-at, length-free, hold_at-free}
-use Rattle.qd_table.specs.Tables.{Table, slots_in, key_at, slot_for, hold_for, limit_for, order_of, pairs_in, view_for, queue_of}
+use Rattle.qd_table.specs.Tables.{slots_in, key_at, slot_for, hold_for, limit_for, order_of, pairs_in, view_for, queue_of}
 use Rattle.qd_table.specs.Steps.{IsSame}
 use Rattle.qd_table.specs.Stored.{Store, table_of, named_in, IsStored}
 use Rattle.qd_table.proofs.CallSteps.{sound-same}
-use Rattle.qd_table.proofs.TableLaws.{none-from}
 
 -- free cells were added
 size-free : (f : Cell → ℕ) (cells : List Cell) (n m : ℕ) → f free_cell ≡ m → ((i : ℕ) → i < length cells → f (cell_at cells i) ≡ m) → (i : ℕ) → i < length (cells ++ free_cells n) → f (cell_at (cells ++ free_cells n) i) ≡ m

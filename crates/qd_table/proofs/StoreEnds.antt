@@ -1,5 +1,5 @@
 -- The ends of subscriptions, what is let go and what is told, in the parts of a table.
-use Rattle.std.proofs.Common.{◌≡◌, ◌≢◌, ◌⊎◌, inl, inr, ℕ, zero, suc, ◌+◌, ◌-◌, ◌^◌, ◌<◌, ◌≤◌, Bool, true, false, ◌&&◌, ◌||◌, not, if◌then◌else◌, nat_eq, Option, Some, None, is_some, List, [], ◌∷◌, ◌++◌, length, slice_index, slice_index_or, slice_set, refl, ap, sym, ◌∙◌, arith, subst}
+use Rattle.std.proofs.Common.{◌≡◌, ℕ, ◌-◌, ◌<◌, ◌≤◌, Bool, true, false, ◌&&◌, ◌||◌, not, if◌then◌else◌, nat_eq, Option, Some, None, List, [], ◌∷◌, ◌++◌, length, slice_index, slice_set, refl, ap, sym, ◌∙◌, arith, subst}
 use Rattle.std.proofs.lemmas.List.{length-set}
 use Rattle.qd_scheme.specs.declared.key.Key.{Key}
 use Rattle.qd_pend.specs.Slots.{SlotList, has, without}
@@ -7,23 +7,20 @@ use Rattle.qd_pend.proofs.ListLaws.{same, equal, has-without, has-without_same, 
 use Rattle.qd_slots.specs.declared.holds.Hold.{Hold}
 use Rattle.qd_slots.specs.declared.holds.Hold.TheVariants.{Free, Kept, Subscribed}
 use Rattle.qd_slots.specs.declared.holds.Cell.{Cell}
-use Rattle.qd_slots.specs.declared.views.View.{View}
 use Rattle.qd_slots.specs.Names.{slot_in, name_at}
-use Rattle.qd_slots.specs.Holds.{Holdings, no_order, cell_at, order_at, hold_at, hold_in, limit_in, total_in, is_subscribed, is_kept, is_held_cell, after_end, with_hold, with_limit, with_last, with_less, with_subscription, with_end, without_kept, more_by, less_by, IsHolding}
+use Rattle.qd_slots.specs.Holds.{Holdings, cell_at, order_at, hold_at, hold_in, limit_in, total_in, is_subscribed, is_kept, is_held_cell, after_end, with_hold, with_less, with_end, without_kept, less_by, IsHolding}
 use Rattle.qd_slots.specs.Kept.{with_more}
-use Rattle.qd_slots.specs.Views.{Viewing, no_viewing, view_at, viewing_at, view_after, view_told, view_differs, queued, queued_again, with_total, with_told, is_known_by, EachSaw, HasSlots}
-use Rattle.qd_slots.proofs.HoldLaws.{holding-subscribe, holding-end, holding-let_go}
-use Rattle.qd_slots.proofs.NameLaws.{below-or-not}
-use Rattle.qd_table.specs.Tables.{Table, slots_in, key_at, slot_for, hold_for, limit_for, order_of, total_for, is_wanted_slot, pairs_in, view_for, queue_of, differs_for, total_to_tell, is_used, room_for}
-use Rattle.qd_table.specs.Steps.{is_cell, IsSlotFor, KeepsUsed, IsSame, IsSubscribed, IsEnded, IsLetGo, IsTold}
+use Rattle.qd_slots.specs.Views.{Viewing, view_at, viewing_at, view_after, view_told, view_differs, queued, queued_again, with_told, is_known_by, EachSaw, HasSlots}
+use Rattle.qd_slots.proofs.HoldLaws.{holding-end, holding-let_go}
+use Rattle.qd_table.specs.Tables.{Table, slots_in, key_at, slot_for, hold_for, limit_for, order_of, total_for, pairs_in, view_for, queue_of, differs_for, total_to_tell, is_used, room_for}
+use Rattle.qd_table.specs.Steps.{is_cell, IsSame, IsEnded, IsLetGo, IsTold}
 use Rattle.qd_table.specs.Sound.{IsSound}
 use Rattle.qd_table.specs.Stored.{Store, table_of, named_in, without_unused, kept_if, IsStored}
-use Rattle.qd_table.proofs.TableLaws.{unused, unused-hold, or-right, below-any, true-false, some-none, apart-numbers, wanted-subscriber, key_at-within, key_at-used, key_at-subscribed}
-use Rattle.qd_table.proofs.StandLaws.{total_for-some}
-use Rattle.qd_table.proofs.CallSteps.{cell-here, sound-subscribed, sound-ended, sound-let_go, sound-told, sound-same}
-use Rattle.qd_table.proofs.CellLaws.{used-of, total-of, slot-within}
-use Rattle.qd_table.proofs.CellSteps.{at-set, hold-set, limit-set, limit-ended, sizes-set, view-saw, queue-saw, view-told, queue-told, name-again, at-set_any}
-use Rattle.qd_table.proofs.StoreSteps.{order-set, slots-set, list-set, keeps-used, names-length, saw-room, told-room}
+use Rattle.qd_table.proofs.TableLaws.{unused, unused-hold, or-right, true-false, apart-numbers, key_at-subscribed}
+use Rattle.qd_table.proofs.CallSteps.{sound-ended, sound-let_go, sound-told, sound-same}
+use Rattle.qd_table.proofs.CellLaws.{total-of, slot-within}
+use Rattle.qd_table.proofs.CellSteps.{hold-set, limit-ended, sizes-set, view-saw, queue-saw, view-told, queue-told, name-again}
+use Rattle.qd_table.proofs.StoreSteps.{slots-set, list-set, keeps-used, names-length, saw-room, told-room}
 
 -- a cell keeps its sizes where a hold is set
 hold-sizes : (s s' : Store) (a slot : ℕ) (hold : Hold) → IsStored s → slot < length s.holdings.cells → s'.holdings.cells ≡ slice_set s.holdings.cells slot (with_hold (cell_at s.holdings.cells slot) a hold) →

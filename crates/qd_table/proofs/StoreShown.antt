@@ -1,27 +1,23 @@
 -- The calls by slot, from the parts to the table that they show.
-use Rattle.std.proofs.Common.{◌≡◌, ◌⊎◌, inl, inr, ℕ, ◌+◌, ◌-◌, ◌^◌, ◌<◌, ◌≤◌, Bool, true, false, not, if◌then◌else◌, nat_eq, Option, Some, None, is_some, Result, Ok, Err, OnOk, OnErr, IfErr, List, [], length, map, replicate, slice_set, refl, ap, sym, ◌∙◌, arith, subst}
-use Rattle.std.proofs.lemmas.List.{length-set, get_or_past, get_or-replicate}
+use Rattle.std.proofs.Common.{◌≡◌, ℕ, ◌+◌, ◌<◌, ◌≤◌, Bool, true, false, not, if◌then◌else◌, nat_eq, Option, Some, None, is_some, Result, Ok, Err, OnOk, IfErr, List, length, slice_set, refl, ap, sym, ◌∙◌, arith, subst}
+use Rattle.std.proofs.lemmas.List.{length-set, get_or_past}
 use Rattle.qd_scheme.specs.declared.key.Key.{Key}
 use Rattle.qd_sub.specs.declared.sub.Sub.{Sub}
 use Rattle.qd_sub.specs.declared.sub.Want.{Want}
-use Rattle.qd_pend.specs.Slots.{SlotList, has}
+use Rattle.qd_pend.specs.Slots.{has}
 use Rattle.qd_pend.proofs.ListLaws.{same}
 use Rattle.qd_slots.specs.declared.holds.Hold.{Hold}
 use Rattle.qd_slots.specs.declared.holds.Hold.TheVariants.{Free, Kept, Subscribed}
-use Rattle.qd_slots.specs.declared.holds.Cell.{Cell}
 use Rattle.qd_slots.specs.declared.views.View.{View}
 use Rattle.qd_slots.specs.Names.{name_at}
-use Rattle.qd_slots.specs.Holds.{Holdings, no_cell, no_order, cell_at, order_at, hold_at, total_in, is_subscribed, is_kept, with_end, with_hold, without_kept, after_end}
-use Rattle.qd_slots.specs.Views.{Viewing, no_viewing, no_view, view_at, viewing_at, view_after, with_told, HasSlot, HasSlots, EachSaw}
-use Rattle.qd_slots.proofs.HoldLaws.{at-replicate, holding-new}
-use Rattle.qd_slots.proofs.NameLaws.{below-or-not}
+use Rattle.qd_slots.specs.Holds.{Holdings, cell_at, order_at, hold_at, total_in, is_subscribed, is_kept, with_end, with_hold, after_end}
+use Rattle.qd_slots.specs.Views.{Viewing, view_at, viewing_at, view_after, with_told, HasSlot, EachSaw}
 use Rattle.qd_table.specs.declared.table.SubFault.{SubFault}
 use Rattle.qd_table.specs.declared.table.SubFault.TheVariants.{NoMemory}
-use Rattle.qd_table.specs.Tables.{Table, no_table, slots_in, keys_in, key_at, slot_for, below, hold_for, limit_for, total_for, order_of, is_wanted_slot, view_for, queue_of, differs_for, is_used, holds_by, pairs_in, room_for, total_to_tell, want_for, fault_of}
+use Rattle.qd_table.specs.Tables.{Table, keys_in, key_at, hold_for, is_wanted_slot, view_for, pairs_in, room_for, total_to_tell, want_for, fault_of}
 use Rattle.qd_table.specs.Steps.{IsSame, IsSubscribed, IsEnded, IsLetGo, IsTold, IsCause}
-use Rattle.qd_table.specs.Sound.{IsSound, EachPairOnce}
 use Rattle.qd_table.specs.Stored.{Store, table_of, named_in, IsStored}
-use Rattle.qd_table.proofs.TableLaws.{some-from, true-false, some-none, below-none, by}
+use Rattle.qd_table.proofs.TableLaws.{some-from, true-false}
 use Rattle.qd_table.proofs.StandLaws.{total_for-some}
 use Rattle.qd_table.proofs.CellLaws.{total-cell}
 use Rattle.qd_table.proofs.StoreSteps.{Subscribing, subscribing-step, told-room}

@@ -1,5 +1,5 @@
 -- Each call leaves parts that fit together, and does to the table what it says.
-use Rattle.std.proofs.Common.{◌≡◌, ◌≢◌, ◌⊎◌, inl, inr, ℕ, zero, suc, ◌+◌, ◌-◌, ◌^◌, ◌<◌, ◌≤◌, Bool, true, false, ◌&&◌, ◌||◌, not, if◌then◌else◌, nat_eq, Option, Some, None, is_some, List, [], ◌∷◌, ◌++◌, length, slice_index_or, slice_set, refl, ap, sym, ◌∙◌, arith, subst}
+use Rattle.std.proofs.Common.{◌≡◌, ◌⊎◌, ℕ, ◌+◌, ◌-◌, ◌<◌, ◌≤◌, Bool, true, false, ◌&&◌, ◌||◌, not, if◌then◌else◌, nat_eq, Option, Some, None, is_some, List, [], ◌∷◌, ◌++◌, length, slice_set, refl, ap, sym, ◌∙◌, arith, subst}
 use Rattle.std.proofs.lemmas.List.{length-set}
 use Rattle.qd_scheme.specs.declared.key.Key.{Key}
 use Rattle.qd_pend.specs.Slots.{SlotList, has, without}
@@ -9,20 +9,17 @@ use Rattle.qd_slots.specs.declared.holds.Hold.TheVariants.{Free, Kept, Subscribe
 use Rattle.qd_slots.specs.declared.holds.Cell.{Cell}
 use Rattle.qd_slots.specs.declared.views.View.{View}
 use Rattle.qd_slots.specs.Names.{slot_in, name_at}
-use Rattle.qd_slots.specs.Holds.{no_order, cell_at, order_at, hold_at, hold_in, limit_in, total_in, is_subscribed, is_kept, is_held_cell, after_end, with_hold, with_limit, with_last, with_less, with_subscription, with_end, without_kept, more_by, less_by}
-use Rattle.qd_slots.specs.Kept.{with_more}
-use Rattle.qd_slots.specs.Views.{Viewing, no_viewing, view_at, viewing_at, view_after, view_told, view_differs, queued, queued_again, with_total, with_told, is_known_by, EachSaw, HasSlots}
-use Rattle.qd_slots.proofs.HoldLaws.{holding-subscribe, holding-end, holding-let_go}
-use Rattle.qd_slots.proofs.NameLaws.{below-or-not}
-use Rattle.qd_table.specs.Tables.{Table, slots_in, key_at, slot_for, hold_for, limit_for, order_of, total_for, is_wanted_slot, pairs_in, view_for, queue_of, differs_for, total_to_tell, is_used, room_for}
-use Rattle.qd_table.specs.Steps.{is_cell, IsSlotFor, KeepsUsed, IsSubscribed, IsEnded, IsLetGo, IsTold}
-use Rattle.qd_table.specs.Sound.{IsSound}
-use Rattle.qd_table.specs.Stored.{Store, table_of, named_in, without_unused, kept_if, IsStored}
-use Rattle.qd_table.proofs.TableLaws.{below-any, true-false, some-none, apart-numbers, wanted-subscriber, key_at-within, key_at-used, key_at-subscribed}
+use Rattle.qd_slots.specs.Holds.{no_order, cell_at, order_at, hold_at, total_in, is_subscribed, is_kept, is_held_cell, with_hold, with_limit, with_last, with_less, with_subscription, more_by}
+use Rattle.qd_slots.specs.Views.{Viewing, no_viewing, view_at, viewing_at, view_after, view_told, view_differs, queued, with_told, is_known_by, EachSaw, HasSlots}
+use Rattle.qd_slots.proofs.HoldLaws.{holding-subscribe}
+use Rattle.qd_table.specs.Tables.{slots_in, key_at, slot_for, hold_for, limit_for, order_of, total_for, is_wanted_slot, pairs_in, view_for, queue_of, differs_for, is_used, room_for}
+use Rattle.qd_table.specs.Steps.{is_cell, KeepsUsed, IsSubscribed}
+use Rattle.qd_table.specs.Stored.{Store, table_of, named_in, without_unused, IsStored}
+use Rattle.qd_table.proofs.TableLaws.{below-any, apart-numbers}
 use Rattle.qd_table.proofs.StandLaws.{total_for-some}
-use Rattle.qd_table.proofs.CallSteps.{cell-here, sound-subscribed, sound-ended, sound-let_go, sound-told}
-use Rattle.qd_table.proofs.CellLaws.{used-of, total-of, slot-within}
-use Rattle.qd_table.proofs.CellSteps.{at-set, hold-set, limit-set, limit-ended, sizes-set, view-saw, queue-saw, view-told, queue-told}
+use Rattle.qd_table.proofs.CallSteps.{cell-here, sound-subscribed}
+use Rattle.qd_table.proofs.CellLaws.{used-of, total-of}
+use Rattle.qd_table.proofs.CellSteps.{at-set, hold-set, limit-set, sizes-set, view-saw, queue-saw}
 
 -- an agent's queue was set
 pub order-set : (orders orders' : List SlotList) (a : ℕ) (q : SlotList) (b : ℕ) → a < length orders → orders' ≡ slice_set orders a q → order_at orders' b ≡ (if nat_eq b a then q else order_at orders b)

@@ -1,6 +1,6 @@
 -- The numbers by which an Add is judged are those of the held keys and pairs of the moment, for any definition of held that agrees with the table.
-use Rattle.std.proofs.Common.{◌≡◌, ◌⊎◌, inl, inr, ℕ, zero, suc, ◌+◌, ◌<◌, ◌≤◌, Bool, true, false, ◌&&◌, ◌||◌, not, if◌then◌else◌, nat_eq, nat_lt, Option, Some, None, is_some, List, [], ◌∷◌, length, map, refl, ap, sym, ◌∙◌, arith}
-use Rattle.std.specs.List.{list_any, filter, filter_map, cons_option}
+use Rattle.std.proofs.Common.{◌≡◌, ◌⊎◌, inl, inr, ℕ, suc, ◌+◌, Bool, true, false, ◌&&◌, ◌||◌, not, if◌then◌else◌, nat_lt, Option, Some, None, is_some, List, [], ◌∷◌, length, map, refl, ap, sym, ◌∙◌, arith}
+use Rattle.std.specs.List.{list_any, filter}
 use Rattle.qd_scheme.specs.declared.key.Key.{Key}
 use Rattle.qd_scheme.specs.Keys.{key_eq}
 use Rattle.qd_scheme.proofs.KeyLaws.{key_eq-true, key_eq-same, key_eq-comm}
@@ -13,13 +13,13 @@ use Rattle.qd_sub.proofs.OrderLaws.{once, once-filter, any-filter}
 use Rattle.qd_sub.proofs.StepLaws.{pair_eq}
 use Rattle.qd_slots.specs.Names.{name_at}
 use Rattle.qd_slots.specs.Holds.{is_held}
-use Rattle.qd_table.specs.declared.table.SubFault.{SubFault}
 use Rattle.qd_table.specs.declared.table.SubFault.TheVariants.{TooManyKeys, TooManySubs}
-use Rattle.qd_table.specs.Tables.{Table, key_at, slot_for, keys_in, keys_held, hold_for, view_for, holds_by, known_by, pairs_in, is_used, too_many_keys, too_many_subs, fault_of}
+use Rattle.qd_table.specs.Tables.{Table, key_at, slot_for, keys_in, keys_held, hold_for, holds_by, pairs_in, too_many_keys, too_many_subs, fault_of}
 use Rattle.qd_table.specs.Sound.{IsSound}
 use Rattle.qd_table.specs.Standing.{StandsFor}
 use Rattle.qd_table.specs.Stored.{named_in}
-use Rattle.qd_table.proofs.TableLaws.{true-false, some-none, some-same, or-left, or-right, or-cases, same-truth, some-from, key_at-found, used-holder, used-agent, used-watcher}
+use Rattle.qd_table.proofs.TableLaws.{true-false, some-same, or-left, same-truth, some-from, key_at-found, used-holder}
+use Rattle.qd_table.proofs.FreshLaws.{but-alone}
 use Rattle.qd_table.proofs.ListLaws.{once-each}
 use Rattle.qd_table.proofs.StandLaws.{holds_by-at, holds_by-none, known_by-at, known_by-none}
 use Rattle.qd_table.proofs.JudgeLaws.{count-same, count-fresh, named-has}
@@ -37,16 +37,6 @@ not-true : (b : Bool) → not b ≡ true → b ≡ false
 not-true true h = sym h
 not-true false h = refl
 
-filter-absent : (k : Key) (ks : List Key) → has_key ks k ≡ false → filter (λ j. not (key_eq k j)) ks ≡ ks
-filter-absent k [] h = refl
-filter-absent k (j ∷ ks) h =
-    let go : (c : Bool) → key_eq k j ≡ c → filter (λ x. not (key_eq k x)) (j ∷ ks) ≡ j ∷ ks =
-    elim [
-      | true ↦ λ e. let z = rw e at h in cc
-      | false ↦ λ e. (let rest = filter-absent k ks (rw e at h) in rw (e, rest) refl)
-    ] in
-    go (key_eq k j) refl
-
 length-less : (k : Key) (ks : List Key) → once key_eq ks ≡ true → has_key ks k ≡ true → length ks ≡ suc (length (filter (λ j. not (key_eq k j)) ks))
 unfolding once
 length-less k [] o h = cc
@@ -56,7 +46,7 @@ length-less k (j ∷ ks) o h =
     let go : (c : Bool) → key_eq k j ≡ c → length (j ∷ ks) ≡ suc (length (filter (λ x. not (key_eq k x)) (j ∷ ks))) =
     elim [
       | true ↦ λ e. (let absent : has_key ks k ≡ false = ap (λ x. has_key ks x) (key_eq-true k j e) ∙ alone in
-          rw e (ap (λ xs. suc (length xs)) (sym (filter-absent k ks absent))))
+          rw e (ap (λ xs. suc (length xs)) (sym (but-alone k ks absent))))
       | false ↦ λ e. rw e (ap suc (length-less k ks rest (rw e at h)))
     ] in
     go (key_eq k j) refl

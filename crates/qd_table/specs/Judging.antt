@@ -10,7 +10,7 @@ use Rattle.qd_slots.specs.declared.holds.Cell.{Cell}
 use Rattle.qd_slots.specs.Names.{slot_in}
 use Rattle.qd_slots.specs.Holds.{Holdings, hold_at, is_held}
 use Rattle.qd_table.specs.declared.table.SubFault.{SubFault}
-use Rattle.qd_table.specs.declared.table.SubFault.TheVariants.{TooManyKeys, TooManySubs, NoMemory}
+use Rattle.qd_table.specs.declared.table.SubFault.TheVariants.{TooManyKeys, TooManySubs}
 
 -- how many keys of a list the test does not pass, each counted once
 unfoldable pub fresh_count : (Key → Bool) → List Key → ℕ

@@ -1,5 +1,5 @@
 -- What is true of every table.
-use Rattle.std.specs.Prelude.{ℕ, ◌≡◌, ◌<◌, ◌≤◌, Bool, true, false, Some, is_some, List, [], ◌∷◌, length}
+use Rattle.std.specs.Prelude.{ℕ, ◌≡◌, ◌<◌, ◌≤◌, true, false, Some, is_some, List, [], ◌∷◌, length}
 use Rattle.std.specs.List.{list_any}
 use Rattle.qd_scheme.specs.declared.key.Key.{Key}
 use Rattle.qd_sub.specs.Acts.{is_pair}

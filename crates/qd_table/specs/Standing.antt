@@ -1,5 +1,5 @@
 -- For which moments a table stands.
-use Rattle.std.specs.Prelude.{ℕ, ◌≡◌, ◌<◌, Bool, ◌||◌, List}
+use Rattle.std.specs.Prelude.{ℕ, ◌≡◌, ◌<◌, Bool, ◌||◌}
 use Rattle.qd_scheme.specs.declared.key.Key.{Key}
 use Rattle.qd_sub.specs.Acts.{Moment, is_told, newest_key}
 use Rattle.qd_sub.specs.Since.{by_since}

@@ -1,17 +1,15 @@
 -- What each call leaves of a table, slot by slot.
-use Rattle.std.specs.Prelude.{ℕ, ◌≡◌, ◌⊎◌, ◌<◌, ◌≤◌, ◌-◌, Bool, true, false, ◌&&◌, ◌||◌, not, nat_eq, if◌then◌else◌, Option, Some, None, is_some, List, [], ◌∷◌, ◌++◌, take}
+use Rattle.std.specs.Prelude.{ℕ, ◌≡◌, ◌⊎◌, ◌<◌, ◌≤◌, ◌-◌, Bool, true, false, ◌&&◌, not, nat_eq, if◌then◌else◌, Some, None, List, [], ◌∷◌}
 use Rattle.qd_scheme.specs.declared.key.Key.{Key}
 use Rattle.qd_sub.specs.declared.sub.Sub.{Sub}
-use Rattle.qd_sub.specs.declared.sub.Want.{Want}
 use Rattle.qd_pend.specs.Slots.{without, first_in}
-use Rattle.qd_slots.specs.declared.holds.Hold.{Hold}
-use Rattle.qd_slots.specs.declared.holds.Hold.TheVariants.{Free, Kept, Subscribed}
+use Rattle.qd_slots.specs.declared.holds.Hold.TheVariants.{Free, Subscribed}
 use Rattle.qd_slots.specs.Views.{view_after, view_told, queued, queued_again}
 use Rattle.qd_table.specs.declared.table.SubFault.{SubFault}
 use Rattle.qd_table.specs.declared.table.SubFault.TheVariants.{TooManyKeys, TooManySubs, NoMemory}
 use Rattle.qd_slots.specs.Holds.{after_end, is_kept, is_subscribed, more_by, less_by}
 use Rattle.qd_table.specs.Sound.{IsSound}
-use Rattle.qd_table.specs.Tables.{Table, slots_in, key_at, slot_for, hold_for, limit_for, order_of, total_for, is_wanted_slot, pairs_in, view_for, queue_of, differs_for, total_to_tell, wants_for, is_used, room_for, fault_of}
+use Rattle.qd_table.specs.Tables.{Table, slots_in, key_at, slot_for, hold_for, limit_for, order_of, total_for, pairs_in, view_for, queue_of, differs_for, total_to_tell, is_used, room_for, fault_of}
 
 -- these two and those two are the same
 abbrev pub is_cell : ℕ → ℕ → ℕ → ℕ → Bool

@@ -1,5 +1,5 @@
 -- What a stripe knows of its subscriptions, its held pairs and its watchers, slot by slot.
-use Rattle.std.specs.Prelude.{ℕ, zero, suc, ◌+◌, ◌*◌, Bool, true, false, ◌&&◌, ◌||◌, not, nat_eq, nat_lt, if◌then◌else◌, Option, Some, None, is_some, List, [], ◌∷◌, ◌++◌, length, map, take, slice_index_or, replicate}
+use Rattle.std.specs.Prelude.{ℕ, zero, suc, ◌+◌, ◌*◌, Bool, false, ◌&&◌, ◌||◌, not, nat_eq, nat_lt, if◌then◌else◌, Option, Some, None, is_some, List, [], ◌∷◌, length, map, take, replicate}
 use Rattle.std.specs.List.{list_any, filter, filter_map, cons_option}
 use Rattle.qd_scheme.specs.declared.key.Key.{Key}
 use Rattle.qd_sub.specs.declared.sub.Sub.{Sub}
@@ -8,10 +8,9 @@ use Rattle.qd_sub.specs.Holding.{fresh}
 use Rattle.qd_sub.specs.Subscriptions.{least}
 use Rattle.qd_pend.specs.Slots.{next_in}
 use Rattle.qd_slots.specs.declared.holds.Hold.{Hold}
-use Rattle.qd_slots.specs.declared.holds.Hold.TheVariants.{Free}
 use Rattle.qd_slots.specs.declared.views.View.{View}
 use Rattle.qd_table.specs.declared.table.SubFault.{SubFault}
-use Rattle.qd_table.specs.declared.table.SubFault.TheVariants.{TooManyKeys, TooManySubs, NoMemory}
+use Rattle.qd_table.specs.declared.table.SubFault.TheVariants.{TooManyKeys, TooManySubs}
 use Rattle.qd_slots.specs.Views.{Viewing, no_viewing, view_at, viewing_at, view_differs}
 use Rattle.qd_slots.specs.Names.{slot_in, name_at}
 use Rattle.qd_slots.specs.Holds.{Holdings, no_order, cell_at, order_at, hold_at, limit_in, is_held, is_subscribed}

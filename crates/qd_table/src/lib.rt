@@ -12,3 +12,6 @@ mod table;
 mod watching;
 
 pub use table::{SubFault, SubTable};
+
+#[cfg(test)]
+mod tests;

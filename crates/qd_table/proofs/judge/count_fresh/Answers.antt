@@ -1,6 +1,5 @@
-use Rattle.std.proofs.Common.{◌≡◌, ◌+◌, ◌<◌, ◌≤◌, ◌∙◌, ap, sym, arith, drop, map, length}
-use Rattle.indexmap.specs.IndexSet.{spare}
-use Rattle.qd_table.specs.Judging.{has_slot, holds_key, fresh_count, seen_or}
+use Rattle.std.proofs.Common.{◌+◌, ◌∙◌, arith, drop, map}
+use Rattle.qd_table.specs.Judging.{has_slot, holds_key, seen_or}
 use Rattle.qd_table.proofs.JudgeLaws.{count-start, count-loop, count-done}
 use Rattle.qd_table.proofs.judge.count_fresh.Goals as goal
 

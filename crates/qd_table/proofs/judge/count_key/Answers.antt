@@ -1,6 +1,6 @@
-use Rattle.std.proofs.Common.{◌≡◌, ◌+◌, ◌∙◌, ap, sym, arith, ◌∷◌, if◌then◌else◌}
-use Rattle.qd_table.specs.Judging.{has_slot, holds_key, fresh_count, seen_or}
-use Rattle.qd_table.proofs.JudgeLaws.{count-seen, count-noted, count-more}
+use Rattle.std.proofs.Common.{◌+◌, ◌∙◌, ap, sym}
+use Rattle.qd_table.specs.Judging.{has_slot, holds_key}
+use Rattle.qd_table.proofs.JudgeLaws.{count-seen, count-more}
 use Rattle.qd_table.proofs.judge.count_key.Goals as goal
 
 pub returns-then-contains-clause-keys : goal.returns-then-contains-clause-keys

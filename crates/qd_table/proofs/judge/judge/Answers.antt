@@ -1,5 +1,4 @@
-use Rattle.std.proofs.Common.{◌≡◌, ◌+◌, ◌≤◌, ◌∙◌, ap, sym, arith, length, map}
-use Rattle.qd_table.specs.Judging.{has_slot, holds_key, fresh_count, verdict_for}
+use Rattle.std.proofs.Common.{◌∙◌, sym, arith, map}
 use Rattle.qd_table.proofs.JudgeLaws.{judged-few, judged-counted}
 use Rattle.qd_table.proofs.judge.judge.Goals as goal
 

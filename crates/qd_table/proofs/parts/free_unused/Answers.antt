@@ -1,6 +1,5 @@
-use Rattle.std.proofs.Common.{◌≡◌, ◌+◌, ◌<◌, ◌∙◌, sym, ap, arith, Some, length}
+use Rattle.std.proofs.Common.{◌≡◌, ◌∙◌, sym, ap, arith, Some, length}
 use Rattle.qd_slots.specs.Names.{name_at}
-use Rattle.qd_slots.proofs.NameLaws.{below-or-not}
 use Rattle.qd_table.specs.Stored.{named_in}
 use Rattle.qd_table.proofs.CellSteps.{named-less, name-within}
 use Rattle.qd_table.proofs.parts.free_unused.Goals as goal

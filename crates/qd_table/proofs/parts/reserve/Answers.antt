@@ -1,4 +1,3 @@
-use Rattle.std.proofs.Common.{◌≡◌, ◌∙◌, ap, arith}
 use Rattle.qd_slots.proofs.HoldLaws.{roomier-same}
 use Rattle.qd_slots.proofs.IndexLaws.{grown-none}
 use Rattle.qd_slots.proofs.ViewLaws.{each-wider-same}

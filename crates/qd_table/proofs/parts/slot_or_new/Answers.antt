@@ -1,4 +1,4 @@
-use Rattle.std.proofs.Common.{◌≡◌, ◌+◌, ap, arith, length}
+use Rattle.std.proofs.Common.{ap, arith, length}
 use Rattle.qd_table.specs.Stored.{named_in}
 use Rattle.qd_table.proofs.CellSteps.{named-more}
 use Rattle.qd_table.proofs.parts.slot_or_new.Goals as goal

@@ -1,4 +1,3 @@
-use Rattle.std.proofs.Common.{◌≡◌, ◌∙◌, sym}
 use Rattle.qd_table.proofs.JudgeLaws.{judged-cause, judged-allowed}
 use Rattle.qd_table.proofs.StoreShown.{keys-allowed, pairs-allowed, allowed-either, refused-cause}
 use Rattle.qd_table.proofs.table.SubTable.admit.Goals as goal

@@ -1,4 +1,4 @@
-use Rattle.std.proofs.Common.{◌≡◌, ◌∙◌, sym}
+use Rattle.std.proofs.Common.{◌∙◌, sym}
 use Rattle.qd_table.proofs.KeyCalls.{bit-yes, bit-no}
 use Rattle.qd_table.proofs.table.SubTable.agent_bit.Goals as goal
 

@@ -1,4 +1,4 @@
-use Rattle.std.proofs.Common.{◌≡◌, ◌<◌, ◌≤◌, ◌-◌, ◌+◌, ◌*◌, ◌^◌, ◌∙◌, arith}
+use Rattle.std.proofs.Common.{◌-◌, arith}
 use Rattle.qd_table.proofs.KeyCalls.{bits-start, bits-loop, bits-fit, bit-fits}
 use Rattle.qd_table.proofs.table.SubTable.agent_bits.Goals as goal
 

@@ -1,4 +1,4 @@
-use Rattle.std.proofs.Common.{◌≡◌, ◌<◌, ◌≤◌, ◌∙◌, ℕ, Option, refl, ap, sym, arith, subst, length, not, is_some}
+use Rattle.std.proofs.Common.{ℕ, Option, refl, arith, subst}
 use Rattle.qd_slots.specs.Views.{EachSaw}
 use Rattle.qd_table.proofs.StoreEnds.{ending-stored}
 use Rattle.qd_table.proofs.Shown.{subscribed-name, cell-of, views-of}

@@ -1,4 +1,4 @@
-use Rattle.std.proofs.Common.{ℕ, length}
+use Rattle.std.proofs.Common.{length}
 use Rattle.qd_table.specs.Tables.{Table, order_of}
 use Rattle.qd_table.specs.Steps.{EndsAll}
 use Rattle.qd_table.proofs.table.SubTable.end_all.Given as goal

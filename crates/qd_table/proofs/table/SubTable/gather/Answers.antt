@@ -1,5 +1,4 @@
-use Rattle.std.proofs.Common.{◌≡◌, ◌<◌, ◌≤◌, ◌+◌, ◌++◌, ◌∙◌, ap, sym, arith, length}
-use Rattle.qd_buffer.specs.Filled.{with_items}
+use Rattle.std.proofs.Common.{◌++◌, ◌∙◌, ap, arith, length}
 use Rattle.qd_table.specs.Tables.{queue_of, wants_at, wants_for}
 use Rattle.qd_table.proofs.KeyCalls.{wants-more, after-more, wants-≤, gathered-count, gathered-taken, wants-all, filled-with}
 use Rattle.qd_table.proofs.table.SubTable.gather.Goals as goal

@@ -1,4 +1,4 @@
-use Rattle.std.proofs.Common.{◌≡◌, ◌≤◌, ◌∙◌, ap, sym, arith, length}
+use Rattle.std.proofs.Common.{◌≤◌, ◌∙◌, ap, sym, arith, length}
 use Rattle.qd_slots.specs.Holds.{is_subscribed, hold_at}
 use Rattle.qd_table.proofs.Shown.{tell-hold, past-hold}
 use Rattle.qd_table.proofs.table.SubTable.is_subscribed.Goals as goal

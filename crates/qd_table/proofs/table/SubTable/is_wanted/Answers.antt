@@ -1,4 +1,4 @@
-use Rattle.std.proofs.Common.{◌≡◌, ◌<◌, ◌≤◌, ◌∙◌, ap, sym, arith, length}
+use Rattle.std.proofs.Common.{◌<◌, ◌≤◌, sym, arith, length}
 use Rattle.qd_table.proofs.Shown.{tell-wanted, past-wanted, cell-of}
 use Rattle.qd_table.proofs.table.SubTable.is_wanted.Goals as goal
 

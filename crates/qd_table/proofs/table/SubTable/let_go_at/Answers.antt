@@ -1,6 +1,4 @@
-use Rattle.std.proofs.Common.{◌≡◌, ◌<◌, ◌≤◌, ◌∙◌, refl, arith, length}
-use Rattle.qd_table.specs.Tables.{key_at}
-use Rattle.qd_table.specs.Stored.{table_of}
+use Rattle.std.proofs.Common.{◌≤◌, refl, arith, length}
 use Rattle.qd_table.proofs.StoreEnds.{letting-stored}
 use Rattle.qd_table.proofs.StoreShown.{letting-shown, past-let_go}
 use Rattle.qd_table.proofs.table.SubTable.let_go_at.Goals as goal

@@ -1,4 +1,4 @@
-use Rattle.std.proofs.Common.{◌≡◌, ◌≤◌, ◌∙◌, ap, sym, arith, length}
+use Rattle.std.proofs.Common.{◌≤◌, ◌∙◌, ap, sym, arith, length}
 use Rattle.qd_slots.specs.Holds.{cell_at, limit_in}
 use Rattle.qd_table.proofs.Shown.{tell-limit, past-limit}
 use Rattle.qd_table.proofs.table.SubTable.limit_at.Goals as goal

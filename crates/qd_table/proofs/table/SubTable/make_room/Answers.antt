@@ -1,4 +1,4 @@
-use Rattle.std.proofs.Common.{◌≡◌, ◌<◌, ◌≤◌, ◌+◌, ◌∙◌, refl, arith, length}
+use Rattle.std.proofs.Common.{refl, arith}
 use Rattle.qd_table.proofs.StoreAdmits.{reserving-stored, refused-room}
 use Rattle.qd_table.proofs.StoreShown.{reserving-shown, part-pairs, part-keys, room-own}
 use Rattle.qd_table.proofs.table.SubTable.make_room.Goals as goal

@@ -1,4 +1,3 @@
-use Rattle.std.proofs.Common.{arith}
 use Rattle.qd_table.proofs.NewLaws.{new-stored}
 use Rattle.qd_table.proofs.table.SubTable.new.Goals as goal
 

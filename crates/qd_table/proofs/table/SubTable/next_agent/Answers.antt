@@ -1,4 +1,4 @@
-use Rattle.std.proofs.Common.{◌≡◌, ◌<◌, ◌≤◌, ◌∙◌, ap, sym, arith, length}
+use Rattle.std.proofs.Common.{◌<◌, ◌≤◌, arith, length}
 use Rattle.qd_table.proofs.Shown.{tell-next, tell-no_next, past-hold, cell-of}
 use Rattle.qd_table.proofs.table.SubTable.next_agent.Goals as goal
 

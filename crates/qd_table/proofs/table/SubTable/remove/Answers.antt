@@ -1,4 +1,4 @@
-use Rattle.std.proofs.Common.{◌≡◌, ◌∙◌, sym}
+use Rattle.std.proofs.Common.{◌∙◌, sym}
 use Rattle.qd_table.proofs.CallSteps.{sound-ended}
 use Rattle.qd_table.proofs.TableLaws.{key_at-found}
 use Rattle.qd_table.proofs.KeyCalls.{stays-wanted, end-unwanted}

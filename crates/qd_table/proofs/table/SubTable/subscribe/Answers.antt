@@ -1,4 +1,4 @@
-use Rattle.std.proofs.Common.{◌≡◌, ◌<◌, ◌≤◌, ◌+◌, ◌-◌, ◌∙◌, ℕ, Option, refl, sym, arith, subst, length}
+use Rattle.std.proofs.Common.{◌<◌, ◌-◌, ◌∙◌, ℕ, Option, refl, sym, arith, subst}
 use Rattle.qd_slots.specs.Holds.{order_at}
 use Rattle.qd_slots.specs.Views.{EachSaw}
 use Rattle.qd_table.proofs.StoreSteps.{subscribing-stored}

@@ -1,4 +1,4 @@
-use Rattle.std.proofs.Common.{◌≡◌, ◌<◌, ◌≤◌, ◌-◌, arith, length}
+use Rattle.std.proofs.Common.{arith}
 use Rattle.qd_table.proofs.KeyCalls.{subscribes-more, subscribes-end}
 use Rattle.qd_table.proofs.table.SubTable.subscribe_all.Goals as goal
 

@@ -1,4 +1,4 @@
-use Rattle.std.proofs.Common.{ℕ, ◌-◌, ◌≤◌, length, drop}
+use Rattle.std.proofs.Common.{◌-◌, ◌≤◌, length, drop}
 use Rattle.qd_table.specs.Tables.{Table, room_for}
 use Rattle.qd_table.specs.Steps.{SubscribesAll}
 use Rattle.qd_table.proofs.table.SubTable.subscribe_all.Given as goal

@@ -1,5 +1,4 @@
-use Rattle.std.proofs.Common.{◌≡◌, ◌<◌, ◌≤◌, ◌∙◌, ℕ, refl, ap, sym, arith, length, subst}
-use Rattle.qd_slots.specs.Views.{viewing_at}
+use Rattle.std.proofs.Common.{refl, arith}
 use Rattle.qd_table.proofs.StoreEnds.{telling-stored}
 use Rattle.qd_table.proofs.Shown.{named-slot, cell-of, views-of}
 use Rattle.qd_table.proofs.StoreShown.{telling-shown, part-key, told-slot, told-shown}

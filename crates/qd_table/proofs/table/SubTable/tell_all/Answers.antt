@@ -1,4 +1,4 @@
-use Rattle.std.proofs.Common.{◌≡◌, ℕ, ◌<◌, ◌≤◌, ◌-◌, arith, length, take, subst}
+use Rattle.std.proofs.Common.{◌≡◌, ℕ, ◌-◌, arith, take, subst}
 use Rattle.qd_table.specs.Tables.{queue_of}
 use Rattle.qd_table.specs.Steps.{TellsAll}
 use Rattle.qd_table.proofs.KeyCalls.{tells-more, tells-room, tells-end}

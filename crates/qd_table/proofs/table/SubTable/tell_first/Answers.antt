@@ -1,4 +1,4 @@
-use Rattle.std.proofs.Common.{◌≡◌, ◌∙◌, sym}
+use Rattle.std.proofs.Common.{sym}
 use Rattle.qd_table.proofs.KeyCalls.{first-named}
 use Rattle.qd_table.proofs.table.SubTable.tell_first.Goals as goal
 

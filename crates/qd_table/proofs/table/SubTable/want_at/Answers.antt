@@ -1,4 +1,4 @@
-use Rattle.std.proofs.Common.{◌≡◌, ◌∙◌, sym}
+use Rattle.std.proofs.Common.{◌∙◌, sym}
 use Rattle.qd_table.proofs.Shown.{cell-of, keyed-slot}
 use Rattle.qd_table.proofs.StoreShown.{want-none, want-some}
 use Rattle.qd_table.proofs.table.SubTable.want_at.Goals as goal
