@@ -80,11 +80,14 @@ split_of parts a = record {
 pub read_parts : (scale : ℕ) (parts : Parts) → AreDecimal parts → (value : ℤ) → dec_of scale (spelled parts) ≡ Ok value → IsFine scale parts × (value ≡ signed parts.negative (scaled scale parts))
 read_parts scale parts a value e = read_is scale (spelled parts) (length (sign parts.negative ++ parts.whole)) parts (split_of parts a) (spelled_some parts a) (accepted parts a) value e
 
-pub complete : (scale : ℕ) (parts : Parts) → AreDecimal parts → IsFine scale parts → scaled scale parts ≤ reach parts.negative → dec_of scale (spelled parts) ≡ Ok (signed parts.negative (scaled scale parts))
-complete scale parts a f r =
+-- A fine text of the grammar is read as its number, where that fits.
+pub read_fit : (scale : ℕ) (parts : Parts) → AreDecimal parts → IsFine scale parts → dec_of scale (spelled parts) ≡ signed_fit parts.negative (fitting (scaled scale parts))
+read_fit scale parts a f =
     dec_fine scale (spelled parts) _ (spelled_some parts a) (accepted parts a) (fine_end scale (spelled parts) _ parts (split_of parts a) f)
     ∙ fit_is scale (spelled parts) _ parts (split_of parts a)
-    ∙ fit_ok parts.negative (scaled scale parts) r
+
+pub complete : (scale : ℕ) (parts : Parts) → AreDecimal parts → IsFine scale parts → scaled scale parts ≤ reach parts.negative → dec_of scale (spelled parts) ≡ Ok (signed parts.negative (scaled scale parts))
+complete scale parts a f r = read_fit scale parts a f ∙ fit_ok parts.negative (scaled scale parts) r
 
 pub record IsFraction (places rest : ℕ) (ds : List ℕ) : Type 0 where
   pub digits : AreDigits ds

@@ -25,7 +25,7 @@ pub record Splits (text : List ℕ) (whole : ℕ) (parts : Parts) : Type 0 where
   pub digits : parts.whole ≡ slice_range text (start_of text) whole
   pub fraction : fraction_digits parts.fraction ≡ drop (fraction_start text whole) text
 
-take_all : (xs : List ℕ) (n : ℕ) → length xs ≤ n → take n xs ≡ xs
+pub take_all : (xs : List ℕ) (n : ℕ) → length xs ≤ n → take n xs ≡ xs
 take_all [] zero h = refl
 take_all [] (suc n) h = refl
 take_all (x ∷ xs) zero h = absurd (omega arith)

@@ -1,7 +1,10 @@
 pub mod Again
 pub mod Alive
+pub mod AtFront
+pub mod Copies
 pub mod Ends
 pub mod Exactly
+pub mod FixedDigits
 pub mod Formed
 pub mod Fractions
 pub mod OnePass

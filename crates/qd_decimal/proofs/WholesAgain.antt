@@ -28,10 +28,9 @@ not_empty : (negative : Bool) (digits : List ℕ) → IsCount digits → length 
 not_empty true digits c h = omega arith
 not_empty false digits c h = omega (arith, c.0)
 
--- A whole number that fits is read as its number.
-int_complete : (negative : Bool) (digits : List ℕ) → IsCount digits → number_of digits ≤ reach negative → int_of (sign negative ++ digits) ≡ Ok (signed negative (number_of digits))
-int_complete negative digits c h =
-    let text : List ℕ = sign negative ++ digits in
+-- A whole number is read as its number, where that fits.
+pub int_fit : (negative : Bool) (digits : List ℕ) → IsCount digits → int_of (sign negative ++ digits) ≡ signed_fit negative (fitting (number_of digits))
+int_fit negative digits c =
     let s : start_of (sign negative ++ digits) ≡ length (sign negative) = start_whole negative digits c in
     let d : drop (start_of (sign negative ++ digits)) (sign negative ++ digits) ≡ digits = ap (λ n. drop n (sign negative ++ digits)) s ∙ drop-append_seam (sign negative) digits in
     let w : whole_at (sign negative ++ digits) (start_of (sign negative ++ digits)) ≡ Ok (fitting (number_of digits)) =
@@ -39,7 +38,9 @@ int_complete negative digits c h =
     ∙ ap (λ (t : List ℕ). Ok (fitting (number_of t))) d in
     int_good (sign negative ++ digits) (not_empty negative digits c) (fitting (number_of digits)) w
     ∙ ap (λ b. signed_fit b (fitting (number_of digits))) (minus_sign negative digits c)
-    ∙ fit_ok negative (number_of digits) h
+
+int_complete : (negative : Bool) (digits : List ℕ) → IsCount digits → number_of digits ≤ reach negative → int_of (sign negative ++ digits) ≡ Ok (signed negative (number_of digits))
+int_complete negative digits c h = int_fit negative digits c ∙ fit_ok negative (number_of digits) h
 
 reach_small : (b : Bool) → reach b < 2 ^ 64
 reach_small true = omega arith

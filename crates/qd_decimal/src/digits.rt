@@ -25,9 +25,9 @@ fn with_digit(number: Option<u64>, digit: u8) -> Option<u64>
 
 /// Where a run of digits stops, at its end or where the next digit might not fit, and the number so far.
 #[derive(Clone, Copy)]
-struct Start {
-    end: usize,
-    number: u64,
+pub(crate) struct Start {
+    pub end: usize,
+    pub number: u64,
 }
 
 /// A number up to this takes any further digit in 64 bits.
@@ -35,7 +35,7 @@ const ROOM: u64 = 1_844_674_407_370_955_160;
 
 /// The first digits from `from` on, up to `to` at most, behind those of `number`.
 #[tactic(auto, unfolding(crate::specs::Reading::digits_end))]
-fn start_of_run(number: u64, text: &[u8], from: usize, to: usize) -> Start
+pub(crate) fn start_of_run(number: u64, text: &[u8], from: usize, to: usize) -> Start
     requires order { from ≤ to }
     requires within { to ≤ length text.now }
     ensures number { with_digits (Some number) (slice_range text.now from result.end) ≡ Some result.number }

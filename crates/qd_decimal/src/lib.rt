@@ -11,6 +11,7 @@
 
 mod digits;
 mod fault;
+mod fronts;
 mod laws;
 mod line;
 mod reading;
@@ -19,6 +20,7 @@ mod tests;
 mod writing;
 
 pub use fault::DecFault;
+pub use fronts::{Front, front_dec, front_int};
 pub use laws::{canonical, count_again, dec_again, different_texts, int_again, one_canonical};
 pub use line::Line;
 pub use reading::{read_count, read_dec, read_int};

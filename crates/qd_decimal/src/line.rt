@@ -1,4 +1,4 @@
-ghost use Rattle.std.specs.Prelude.{◌≡◌, ◌≤◌, ◌<◌, ◌+◌, ◌++◌, ◌∷◌, [], length, take, nat_lt, nat_le, if◌then◌else◌, IsTrue, ◌↔◌};
+ghost use Rattle.std.specs.Prelude.{◌≡◌, ◌≤◌, ◌<◌, ◌+◌, ◌++◌, ◌∷◌, [], ◌-◌, length, take, drop, nat_lt, nat_le, if◌then◌else◌, IsTrue, ◌↔◌};
 
 use std::marker::Model;
 
@@ -71,6 +71,22 @@ impl Line {
         let end = self.len + piece.len();
         self.bytes[self.len..end].copy_from_slice(piece);
         self.len = end;
+        true
+    }
+
+    /// Appends what stands in a buffer from `start` up to its middle, unless there is too little room. Where there is room for
+    /// any, half a buffer is copied at once; what is too much lies behind the line's end.
+    pub(crate) fn append_short(&mut self, buffer: &[u8; 64], start: usize) -> bool
+        requires { start ≤ 32 }
+        ensures room { result ≡ nat_le (length self.old + (32 - start)) 4096 }
+        ensures appended { self.new ≡ (if result then self.old ++ take (32 - start) (drop start buffer.now) else self.old) }
+    {
+        if self.len > 4064 {
+            return self.append(&buffer[start..32]);
+        }
+        let end = self.len + 32;
+        self.bytes[self.len..end].copy_from_slice(&buffer[start..start + 32]);
+        self.len = end - start;
         true
     }
 }

@@ -6,7 +6,7 @@ ghost use Rattle.qd_decimal.specs.Reading.{digits_end, has_minus, whole_at, rest
 use crate::DecFault;
 use crate::digits::{digits_end, power_of_ten, run_of, times, zeros_end};
 
-fn signed_fit(negative: bool, number: Option<u64>) -> Result<i64, DecFault>
+pub(crate) fn signed_fit(negative: bool, number: Option<u64>) -> Result<i64, DecFault>
     ensures { result ≡ signed_fit negative number }
 {
     match number {
@@ -29,7 +29,7 @@ fn signed_fit(negative: bool, number: Option<u64>) -> Result<i64, DecFault>
     }
 }
 
-fn count_fit(most: u64, number: Option<u64>) -> Result<u64, DecFault>
+pub(crate) fn count_fit(most: u64, number: Option<u64>) -> Result<u64, DecFault>
     ensures value { result ≡ count_fit most number }
     ensures within { IfOk result (λ n. n ≤ most) }
 {
@@ -39,7 +39,7 @@ fn count_fit(most: u64, number: Option<u64>) -> Result<u64, DecFault>
     }
 }
 
-fn has_minus(text: &[u8]) -> bool
+pub(crate) fn has_minus(text: &[u8]) -> bool
     ensures { result ≡ has_minus text.now }
 {
     !text.is_empty() && text[0] == b'-'

@@ -1,110 +1,110 @@
-ghost use Rattle.std.specs.Prelude.{◌≡◌, ◌+◌, ◌^◌, ◌<◌, ◌≤◌, ◌++◌, length, nat_le, decimal, if◌then◌else◌, true, false};
+//! Numbers are written from their last byte to the first, up to the middle of a small buffer.
+
+ghost use Rattle.std.specs.Prelude.{◌≡◌, ◌+◌, ◌%◌, ◌^◌, ◌<◌, ◌≤◌, ◌++◌, length, drop, nat_le, decimal, if◌then◌else◌};
 ghost use Rattle.qd_decimal.specs.Texts.{fraction_text, point_text, magnitude_text, dec_text};
 
 use crate::Line;
-use crate::digits::cut_before;
-use itoa::Buffer;
+use crate::digits::{cut_before, power_of_ten};
+use itoa::write_digits;
+
+/// The middle of a buffer, up to which numbers are written, is further from its front than the longest text of a number.
+const MIDDLE: usize = 32;
 
 /// Appends the canonical text of a count, unless there is too little room.
+#[tactic(auto, using(crate::proofs::Fractions::count_short, crate::proofs::Copies::short_room, crate::proofs::Copies::short_appended))]
 pub fn write_count(value: u64, out: &mut Line) -> bool
     ensures room { result ≡ nat_le (length out.old + length (decimal value)) 4096 }
     ensures appended { out.new ≡ (if result then out.old ++ decimal value else out.old) }
 {
-    let mut buffer = Buffer::new();
-    out.append(buffer.format(value).as_bytes())
+    let mut buffer = [0; 64];
+    let start = write_digits(value, &mut buffer, MIDDLE);
+    out.append_short(&buffer, start)
 }
 
-/// Appends the digits of a fraction, up to the last one that is not 0.
-fn write_fraction(places: u8, part: u64, out: &mut Line) -> bool
-    requires places { places ≤ 9 }
+/// The digits behind a point, as a number of so many digits.
+#[derive(Clone, Copy)]
+struct Fraction {
+    places: u8,
+    digits: u64,
+}
+
+/// A fraction without the zeros at its end.
+#[tactic(auto, using(crate::proofs::FixedDigits::fewer, crate::proofs::FixedDigits::tenth_below, crate::proofs::FixedDigits::some_place))]
+fn without_zeros(places: u8, part: u64) -> Fraction
+    requires some { 0 < part }
     requires part { part < 10 ^ places }
-    ensures ok { result ≡ true → out.new ≡ out.old ++ fraction_text places part }
-    ensures room { result ≡ false → 4096 < length out.old + length (fraction_text places part) }
+    ensures text { fraction_text result.places result.digits ≡ fraction_text places part }
+    ensures last { 0 < result.digits % 10 }
+    ensures fits { result.digits < 10 ^ result.places }
+    ensures fewer { result.places ≤ places }
 {
     let mut left = places;
     let mut rest = part;
-    while left > 0 && rest != 0 {
+    while rest % 10 == 0 {
+        rest /= 10;
         left -= 1;
-        let cut = cut_before(rest, left);
-        rest = cut.rest;
-        if !out.push(b'0' + cut.front as u8) {
-            return false;
-        }
     }
-    true
-}
-
-/// Appends a count, where there is room for any.
-#[tactic(auto, using(crate::proofs::Fractions::count_short))]
-fn put_count(n: u64, out: &mut Line)
-    requires { length out.old ≤ 4070 }
-    ensures appended { out.new ≡ out.old ++ decimal n }
-    ensures short { length out.new ≤ length out.old + 20 }
-{
-    let _ = write_count(n, out);
-}
-
-/// Appends the digits of a fraction, where there is room for any.
-#[tactic(auto, using(crate::proofs::Fractions::fraction_short))]
-fn put_fraction(places: u8, part: u64, out: &mut Line)
-    requires places { places ≤ 9 }
-    requires part { part < 10 ^ places }
-    requires room { length out.old ≤ 4087 }
-    ensures { out.new ≡ out.old ++ fraction_text places part }
-{
-    let _ = write_fraction(places, part, out);
-}
-
-/// Appends a point and the digits behind it, or nothing, where there is room for any.
-fn put_point(places: u8, part: u64, out: &mut Line)
-    requires places { places ≤ 9 }
-    requires part { part < 10 ^ places }
-    requires room { length out.old ≤ 4086 }
-    ensures { out.new ≡ out.old ++ point_text places part }
-{
-    if part != 0 {
-        let _ = out.push(b'.');
-        put_fraction(places, part, out);
+    Fraction {
+        places: left,
+        digits: rest,
     }
 }
 
-/// Appends the canonical text of a number's distance from 0, where there is room for any.
-#[tactic(auto, using(crate::proofs::Fractions::count_short), unfolding(crate::specs::Texts::magnitude_text))]
-fn write_magnitude(n: u64, scale: u8, out: &mut Line)
-    requires scale { scale ≤ 9 }
-    requires room { length out.old ≤ 4065 }
-    ensures { out.new ≡ out.old ++ magnitude_text scale n }
+/// Writes a point and the digits behind it, or nothing, up to the middle of a buffer. Tells where they begin.
+fn write_point(places: u8, part: u64, buffer: &mut [u8; 64]) -> usize
+    requires places { places ≤ 9 }
+    requires part { part < 10 ^ places }
+    ensures text { drop result buffer.new ≡ point_text places part ++ drop 32 buffer.old }
+    ensures within { result ≤ 32 }
+    ensures room { 22 ≤ result }
+{
+    if part == 0 {
+        return MIDDLE;
+    }
+    // A 1 before the digits keeps the zeros that they begin with. The point takes its place.
+    let fraction = without_zeros(places, part);
+    let number = power_of_ten(fraction.places) + fraction.digits;
+    let start = write_digits(number, buffer, MIDDLE);
+    buffer[start] = b'.';
+    start
+}
+
+/// Writes the canonical text of a number's distance from 0 up to the middle of a buffer. Tells where it begins.
+#[tactic(auto, using(crate::proofs::FixedDigits::part_below, crate::proofs::FixedDigits::front_then_point), unfolding(crate::specs::Texts::magnitude_text))]
+fn write_magnitude(n: u64, scale: u8, buffer: &mut [u8; 64]) -> usize
+    requires { scale ≤ 9 }
+    ensures text { drop result buffer.new ≡ magnitude_text scale n ++ drop 32 buffer.old }
+    ensures within { result ≤ 32 }
+    ensures room { 2 ≤ result }
 {
     let cut = cut_before(n, scale);
-    put_count(cut.front, out);
-    put_point(scale, cut.rest, out);
+    let point = write_point(scale, cut.rest, buffer);
+    write_digits(cut.front, buffer, point)
 }
 
-/// Appends the canonical text of a number, where there is room for any.
-#[tactic(auto, unfolding(crate::specs::Texts::dec_text))]
-fn write_text(value: i64, scale: u8, out: &mut Line)
-    requires scale { scale ≤ 9 }
-    requires room { length out.old ≤ 4064 }
-    ensures { out.new ≡ out.old ++ dec_text scale value }
+/// Writes the canonical text of a number up to the middle of a buffer. Tells where it begins.
+#[tactic(auto, using(crate::proofs::FixedDigits::minus_before), unfolding(crate::specs::Texts::dec_text))]
+fn write_text(value: i64, scale: u8, buffer: &mut [u8; 64]) -> usize
+    requires { scale ≤ 9 }
+    ensures text { drop result buffer.new ≡ dec_text scale value ++ drop 32 buffer.old }
+    ensures within { result ≤ 32 }
 {
-    if value < 0 {
-        let _ = out.push(b'-');
+    let start = write_magnitude(value.unsigned_abs(), scale, buffer);
+    if value >= 0 {
+        return start;
     }
-    write_magnitude(value.unsigned_abs(), scale, out);
+    buffer[start - 1] = b'-';
+    start - 1
 }
 
 /// Appends the canonical text of a decimal number, unless there is too little room.
-#[tactic(auto, using(crate::proofs::Fractions::text_short))]
+#[tactic(auto, using(crate::proofs::Copies::short_room, crate::proofs::Copies::short_appended))]
 pub fn write_dec(value: i64, scale: u8, out: &mut Line) -> bool
     requires { scale ≤ 9 }
     ensures room { result ≡ nat_le (length out.old + length (dec_text scale value)) 4096 }
     ensures appended { out.new ≡ (if result then out.old ++ dec_text scale value else out.old) }
 {
-    if out.len() <= 4064 {
-        write_text(value, scale, out);
-        return true;
-    }
-    let mut text = Line::new();
-    write_text(value, scale, &mut text);
-    out.append(text.bytes())
+    let mut buffer = [0; 64];
+    let start = write_text(value, scale, &mut buffer);
+    out.append_short(&buffer, start)
 }

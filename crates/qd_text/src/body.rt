@@ -1,13 +1,13 @@
 //! Body lines: what a line says under each message.
 
-ghost use Rattle.std.specs.Prelude.{◌≡◌, ◌≤◌, ◌<◌, ◌+◌, length, [], IfOk, IsTrue, All, Some, slice_get};
+ghost use Rattle.std.specs.Prelude.{◌≡◌, ◌≤◌, ◌<◌, ◌+◌, ◌||◌, not, length, [], Ok, IfOk, IfSome, IsTrue, All, Some, slice_get};
 ghost use Rattle.qd_scheme.specs.Faults.{has_scale};
 ghost use Rattle.qd_grammar.specs.Fields.{cells_at, hist_at, record_at};
 ghost use Rattle.qd_grammar.specs.Body.{kinds_of, kinds_at, key_at, record_line, event_line, sub_line, hist_sub_line, lost_line, message_line, body_line};
 ghost use Rattle.qd_text.specs.Cursor.{left, seen, seen_with, put_aside};
 
-use crate::cursor::{fault_at, line_end, part_end};
-use crate::fields::{cell_at, count_at, flags_at, loss_at, symbol_at};
+use crate::cursor::{ends_part, fault_at, line_end, part_end};
+use crate::fields::{cell_at, count_at, flags_at, loss_at, short_cell_at, symbol_at};
 use qd_grammar::{Fault, Item, Message, State, Why};
 use qd_scheme::{Cells, Event, FieldDef, Key, Record, RecordDef, Scheme};
 use qd_sub::Sub;
@@ -42,7 +42,10 @@ fn cells_at(line: &[u8], at: usize, fields: &[FieldDef], cells: &mut Cells) -> R
 {
     let mut next = at;
     for field in fields {
-        let (cell, after) = cell_at(line, next, field.kind)?;
+        let (cell, after) = match short_cell_at(line, next, field.kind) {
+            Some(cell) => (cell.value, cell.next),
+            None => cell_at(line, next, field.kind)?,
+        };
         cells.push(cell);
         next = after;
     }
@@ -58,14 +61,49 @@ fn hist_at(scheme: &Scheme, rec: u32) -> bool
     def_of(scheme, rec).hist
 }
 
-/// The number of a record whose name the part is.
+/// Whether a record may stand where history records alone may, or any.
+fn may_stand(hist: bool, def: &RecordDef) -> bool
+    ensures { result ≡ (not hist || def.now.hist) }
+{
+    !hist || def.hist
+}
+
+/// Where the parts behind the name of this record begin, where the line begins with it and it may stand there.
+#[tactic(auto, using(crate::proofs::FrontNames::near_record, crate::proofs::FrontNames::near_known))]
+fn near_record(line: &[u8], scheme: &Scheme, hist: bool, near: u32) -> Option<usize>
+    ensures read { IfSome result (λ next. Ok (near, left line.now next) ≡ record_at hist scheme.now (length line.now + 1) (left line.now 0)) }
+    ensures order { IfSome result (λ next. next ≤ length line.now + 1) }
+    ensures known { IfSome result (λ next. near < length scheme.now) }
+{
+    match scheme.def(near) {
+        None => None,
+        Some(def) => {
+            let name = def.name.bytes();
+            if !may_stand(hist, def) {
+                return None;
+            }
+            if !line.starts_with(name) {
+                return None;
+            }
+            if !ends_part(line, name.len()) {
+                return None;
+            }
+            Some(name.len() + 1)
+        }
+    }
+}
+
+/// The number of a record whose name the part is. `near` is the one to look at first, as that of the line before.
 #[tactic(auto, unfolding(qd_grammar::specs::Fields::record_at))]
-fn record_at(line: &[u8], scheme: &Scheme, hist: bool) -> Result<(u32, usize), Fault>
+fn record_at(line: &[u8], scheme: &Scheme, hist: bool, near: u32) -> Result<(u32, usize), Fault>
     requires short { length line.now ≤ 4096 }
     ensures read { seen line.now (λ n. n) result ≡ record_at hist scheme.now (length line.now + 1) (left line.now 0) }
     ensures order { IfOk result (λ read. read.1 ≤ length line.now + 1) }
     ensures found { IfOk result (λ read. read.0 < length scheme.now) }
 {
+    if let Some(next) = near_record(line, scheme, hist, near) {
+        return Ok((near, next));
+    }
     let to = part_end(line, 0)?;
     match scheme.find(&line[..to]) {
         None => Err(fault_at(0, Why::UnknownRecord)),
@@ -80,13 +118,13 @@ fn record_at(line: &[u8], scheme: &Scheme, hist: bool) -> Result<(u32, usize), F
 
 /// The key that a body line begins with.
 #[tactic(auto, unfolding(qd_grammar::specs::Body::key_at))]
-fn key_at(line: &[u8], scheme: &Scheme, hist: bool) -> Result<(Key, usize), Fault>
+fn key_at(line: &[u8], scheme: &Scheme, hist: bool, near: u32) -> Result<(Key, usize), Fault>
     requires short { length line.now ≤ 4096 }
     ensures read { seen line.now (λ k. k) result ≡ key_at hist scheme.now (length line.now + 1) (left line.now 0) }
     ensures order { IfOk result (λ read. read.1 ≤ length line.now + 1) }
     ensures found { IfOk result (λ read. read.0.rec < length scheme.now) }
 {
-    let (rec, next) = record_at(line, scheme, hist)?;
+    let (rec, next) = record_at(line, scheme, hist, near)?;
     let (sym, next) = symbol_at(line, next)?;
     Ok((Key { rec, sym }, next))
 }
@@ -115,7 +153,11 @@ fn record_line(line: &[u8], scheme: &Scheme, out: &mut Item) -> Result<(), Fault
     requires { length line.now ≤ 4096 }
     ensures { put_aside result out.new ≡ record_line scheme.now (length line.now + 1) (left line.now 0) }
 {
-    let (key, next) = key_at(line, scheme, false)?;
+    let near = match out {
+        Item::Rec(record) => record.key.rec,
+        _ => 0,
+    };
+    let (key, next) = key_at(line, scheme, false, near)?;
     let mut cells = Cells::new();
     let next = cells_of(line, next, scheme, key.rec, &mut cells)?;
     line_end(line, next)?;
@@ -129,7 +171,11 @@ fn event_line(line: &[u8], scheme: &Scheme, out: &mut Item) -> Result<(), Fault>
     requires { length line.now ≤ 4096 }
     ensures { put_aside result out.new ≡ event_line scheme.now (length line.now + 1) (left line.now 0) }
 {
-    let (key, next) = key_at(line, scheme, true)?;
+    let near = match out {
+        Item::Ev(event) => event.key.rec,
+        _ => 0,
+    };
+    let (key, next) = key_at(line, scheme, true, near)?;
     let (index, next) = count_at(line, next, MOST)?;
     let (flags, next) = flags_at(line, next)?;
     let mut cells = Cells::new();
@@ -150,7 +196,7 @@ fn sub_line(line: &[u8], scheme: &Scheme, hist: bool, out: &mut Item) -> Result<
     requires { length line.now ≤ 4096 }
     ensures { put_aside result out.new ≡ sub_line hist scheme.now (length line.now + 1) (left line.now 0) }
 {
-    let (key, next) = key_at(line, scheme, hist)?;
+    let (key, next) = key_at(line, scheme, hist, 0)?;
     line_end(line, next)?;
     *out = Item::Sub(key);
     Ok(())
@@ -162,7 +208,7 @@ fn hist_sub_line(line: &[u8], scheme: &Scheme, out: &mut Item) -> Result<(), Fau
     requires { length line.now ≤ 4096 }
     ensures { put_aside result out.new ≡ hist_sub_line scheme.now (length line.now + 1) (left line.now 0) }
 {
-    let (key, next) = key_at(line, scheme, true)?;
+    let (key, next) = key_at(line, scheme, true, 0)?;
     let (limit, next) = count_at(line, next, MOST)?;
     line_end(line, next)?;
     *out = Item::HistSub(Sub { key, limit });
@@ -175,7 +221,7 @@ fn lost_line(line: &[u8], scheme: &Scheme, out: &mut Item) -> Result<(), Fault>
     requires { length line.now ≤ 4096 }
     ensures { put_aside result out.new ≡ lost_line scheme.now (length line.now + 1) (left line.now 0) }
 {
-    let (key, next) = key_at(line, scheme, false)?;
+    let (key, next) = key_at(line, scheme, false, 0)?;
     let (count, next) = loss_at(line, next)?;
     line_end(line, next)?;
     *out = Item::Lost(key, count);

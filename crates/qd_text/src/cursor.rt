@@ -3,6 +3,7 @@
 
 ghost use Rattle.std.specs.Prelude.{◌≡◌, ◌≤◌, ◌<◌, ◌+◌, ◌==◌, not, length, drop, IfOk, slice_range, slice_index, ◌∷◌};
 ghost use Rattle.std.specs.List.{prefix_len};
+ghost use Rattle.qd_decimal.specs.Fronts.{ends_part};
 ghost use Rattle.qd_grammar.specs.Parts.{a_part, no_part, parts_of};
 ghost use Rattle.qd_text.specs.Cursor.{left, first_of, part_seen};
 
@@ -32,6 +33,14 @@ pub fn tab_from(line: &[u8], at: usize) -> usize
         to += 1;
     }
     to
+}
+
+/// Whether a part that goes so far ends there.
+pub fn ends_part(line: &[u8], at: usize) -> bool
+    requires { at ≤ length line.now }
+    ensures { result ≡ ends_part line.now at }
+{
+    at == line.len() || line[at] == b'\t'
 }
 
 /// Where the next part ends.

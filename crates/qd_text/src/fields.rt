@@ -1,6 +1,7 @@
 //! What one part of a line says.
 
-ghost use Rattle.std.specs.Prelude.{◌≡◌, ◌≤◌, ◌<◌, ◌+◌, ◌^◌, ◌-◌, length, IfOk, IfErr, IsTrue};
+ghost use Rattle.std.specs.Prelude.{◌≡◌, ◌≤◌, ◌<◌, ◌+◌, ◌^◌, ◌-◌, ◌==◌, not, length, take, Ok, IfOk, IfErr, IfSome, IsTrue};
+ghost use Rattle.std.specs.List.{prefix_len};
 ghost use Rattle.qd_scheme.specs.Faults.{has_scale};
 ghost use Rattle.qd_decimal.specs.Reading.{count_of};
 ghost use Rattle.qd_grammar.specs.Fields.{symbol_told, told_at, fault_place, number_of_kind, count_at, symbol_at, cell_at, flags_at, loss_at};
@@ -8,7 +9,7 @@ ghost use Rattle.qd_text.specs.Cursor.{left, seen};
 ghost use Rattle.qd_text.specs.Near.{IsNear};
 
 use crate::cursor::{fault_at, part_end};
-use qd_decimal::{DecFault, read_count, read_dec, read_int};
+use qd_decimal::{DecFault, Front, front_dec, front_int, read_count, read_dec, read_int};
 use qd_grammar::{Fault, Why};
 use qd_scheme::{FieldKind, Sym};
 
@@ -77,6 +78,7 @@ fn number_of_kind(kind: FieldKind, text: &[u8]) -> Result<i64, DecFault>
 }
 
 /// A field's cell.
+#[inline(never)]
 #[tactic(auto, unfolding(qd_grammar::specs::Fields::cell_at))]
 pub fn cell_at(line: &[u8], at: usize, kind: FieldKind) -> Result<(i64, usize), Fault>
     requires scaled { IsTrue (has_scale kind) }
@@ -88,6 +90,45 @@ pub fn cell_at(line: &[u8], at: usize, kind: FieldKind) -> Result<(i64, usize), 
     let to = part_end(line, at)?;
     let cell = told_at(at, number_of_kind(kind, &line[at..to]))?;
     Ok((cell, to + 1))
+}
+
+/// A cell, and where the parts behind it begin.
+#[derive(Clone, Copy)]
+pub struct Cell {
+    pub value: i64,
+    pub next: usize,
+}
+
+/// The number at the front of a text, where one pass tells it.
+fn front_of_kind(kind: FieldKind, text: &[u8]) -> Option<Front>
+    requires scaled { IsTrue (has_scale kind) }
+    ensures value { IfSome result (λ front. number_of_kind kind (take front.len text.now) ≡ Ok front.value) }
+    ensures part { IfSome result (λ front. front.len ≡ prefix_len (λ b. not (b == 9)) text.now) }
+{
+    match kind {
+        FieldKind::Int => front_int(text),
+        FieldKind::Dec(scale) => front_dec(text, scale),
+    }
+}
+
+/// A field's cell, where one pass over its bytes tells it.
+#[tactic(auto, using(crate::proofs::ShortCells::short_cell, crate::proofs::ShortCells::short_within))]
+pub fn short_cell_at(line: &[u8], at: usize, kind: FieldKind) -> Option<Cell>
+    requires scaled { IsTrue (has_scale kind) }
+    requires within { at ≤ length line.now + 1 }
+    ensures read { IfSome result (λ cell. Ok (cell.value, left line.now cell.next) ≡ cell_at kind (length line.now + 1) (left line.now at)) }
+    ensures order { IfSome result (λ cell. cell.next ≤ length line.now + 1) }
+{
+    if at > line.len() {
+        return None;
+    }
+    match front_of_kind(kind, &line[at..]) {
+        Some(front) => Some(Cell {
+            value: front.value,
+            next: at + front.len + 1,
+        }),
+        None => None,
+    }
 }
 
 #[tactic(auto, using(crate::proofs::Near::near_symbol))]

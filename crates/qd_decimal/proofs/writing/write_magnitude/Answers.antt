@@ -1,6 +1,9 @@
-use Rattle.std.proofs.Common.{rules, ◌^◌, refl}
-use Rattle.qd_decimal.proofs.Fractions.{part_small, power_positive}
+use Rattle.std.proofs.Common.{arith}
+use Rattle.qd_decimal.proofs.Fractions.{count_short}
 use Rattle.qd_decimal.proofs.writing.write_magnitude.Goals as goal
 
-pub put_point-requires-clause-part : goal.put_point-requires-clause-part
-put_point-requires-clause-part c = rw c.cut_before-cut.ensures.rest (part_small c.args.n c.args.scale (10 ^ c.args.scale) refl (power_positive c.args.scale))
+pub write_digits-requires : goal.write_digits-requires
+write_digits-requires c = (omega (arith, count_short c.cut_before-cut.result.front (omega arith)), omega arith)
+
+pub returns-clause-room : goal.returns-clause-room
+returns-clause-room c = omega (arith, c.write_digits.ensures.start, count_short c.cut_before-cut.result.front (omega arith))
