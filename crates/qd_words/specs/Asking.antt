@@ -1,18 +1,26 @@
 -- What words ask for.
-use Rattle.std.specs.Prelude.{ℕ, if◌then◌else◌, ◌&&◌, Bool, true, false, List, [], ◌∷◌, codes, Option, Some, None, option_map, option_and_then, is_some}
+use Rattle.std.specs.Prelude.{ℕ, ◌≤◌, if◌then◌else◌, ◌&&◌, ◌==◌, nat_le, Bool, true, List, [], ◌∷◌, length, codes, Option, Some, None, option_map, option_and_then, is_some}
+use Rattle.std.specs.Result.{result_ok}
+use Rattle.qd_decimal.specs.Reading.{count_of}
 use Rattle.qd_words.specs.declared.ask.Command.{Command}
 use Rattle.qd_words.specs.declared.ask.Command.TheVariants.{Check, Fmt, Replay}
 use Rattle.qd_words.specs.declared.ask.Ask.{Ask}
 use Rattle.qd_words.specs.declared.ask.Name.{Name}
-use Rattle.qd_words.specs.declared.ask.Name.TheVariants.{Scheme}
+use Rattle.qd_words.specs.declared.ask.Name.TheVariants.{Scheme, Cap, Hcap}
 use Rattle.qd_words.specs.Words.{same_text, Argument, arguments}
 use Rattle.qd_words.specs.Words.Argument.{Named, Positional}
 
--- a command with its values: the file that it reads, where it does not read standard input, and the scheme file
+infixl 10 ◌>>=◌
+abbrev pub ◌>>=◌ : {A B : Type 0} → Option A → (A → Option B) → Option B
+o >>= f = option_and_then f o
+
+-- a command with its values: the file that it reads, where it does not read standard input, the scheme file, how many items may wait for an agent of a stream, and how many events may be owed to one of a history
 pub record Asked : Type 0 where
   pub command : Command
   pub file : Option (List ℕ)
   pub scheme : Option (List ℕ)
+  pub cap : ℕ
+  pub hcap : ℕ
 
 -- the command that a word names
 abbrev pub command_of : List ℕ → Option Command
@@ -25,9 +33,15 @@ command_of word =
 -- the names of the options
 abbrev pub name_text : Name → List ℕ
 name_text Scheme = codes "--scheme"
+name_text Cap = codes "--cap"
+name_text Hcap = codes "--hcap"
 
 abbrev pub name_of : List ℕ → Option Name
-name_of word = if same_text word (codes "--scheme") then Some Scheme else None
+name_of word =
+    if same_text word (codes "--scheme") then Some Scheme else
+    if same_text word (codes "--cap") then Some Cap else
+    if same_text word (codes "--hcap") then Some Hcap else
+    None
 
 -- the values given for an option, in order
 abbrev pub values_of : List ℕ → List Argument → List (List ℕ)
@@ -58,20 +72,54 @@ abbrev pub file_of : Option (List ℕ) → Option (List ℕ)
 file_of None = None
 file_of (Some word) = if same_text word (45 ∷ []) then None else Some word
 
--- what the values of an option and the positional words ask of a command: each stands once at most
-abbrev pub asked_for : Command → List (List ℕ) → List (List ℕ) → Option Asked
-asked_for command schemes files =
-    option_and_then (λ scheme. option_and_then (λ file. Some (record { command = command; file = file_of file; scheme = scheme })) (at_most_one files)) (at_most_one schemes)
+-- the count that a word of at most 4096 bytes says, up to a limit: digits alone
+abbrev pub count_in : ℕ → List ℕ → Option ℕ
+count_in most word = if nat_le (length word) 4096 then result_ok (count_of most word) else None
+
+-- a size is 1 to 4096
+abbrev pub IsSize : ℕ → Type 0
+IsSize n = (1 ≤ n) × (n ≤ 4096)
+
+-- the size that a word says
+abbrev pub size_of : List ℕ → Option ℕ
+size_of word = count_in 4096 word >>= λ size. if size == 0 then None else Some size
+
+-- the size that an option gives a command, 1024 where it is not given; `replay` alone takes one
+abbrev pub size_for : Command → Option (List ℕ) → Option ℕ
+size_for command None = Some 1024
+size_for Replay (Some word) = size_of word
+size_for Check (Some word) = None
+size_for Fmt (Some word) = None
+
+-- a command with the values of its options and its positional word, where the command takes these values
+abbrev pub with_values : Command → Option (List ℕ) → Option (List ℕ) → Option (List ℕ) → Option (List ℕ) → Option Asked
+with_values command scheme cap hcap word = do
+  size ← size_for command cap
+  owed ← size_for command hcap
+  Some (record { command = command; file = file_of word; scheme = scheme; cap = size; hcap = owed })
+
+-- what the values of the options and the positional words ask of a command: each stands once at most
+abbrev pub asked_for : Command → (Name → List (List ℕ)) → List (List ℕ) → Option Asked
+asked_for command values words = do
+  scheme ← at_most_one (values Scheme)
+  limit ← at_most_one (values Cap)
+  owed ← at_most_one (values Hcap)
+  word ← at_most_one words
+  with_values command scheme limit owed word
 
 -- what arguments ask of a command
 abbrev pub asked_by : Command → List Argument → Option Asked
-asked_by command arguments = if are_known arguments then asked_for command (values_of (name_text Scheme) arguments) (positional arguments) else None
+asked_by command arguments = if are_known arguments then asked_for command (λ name. values_of (name_text name) arguments) (positional arguments) else None
 
--- what words ask for: the first names the command; none where a word, an option or a count of words is not known
+-- what words ask for: the first names the command; none where a word, an option, a number or a count of words is not known
 unfoldable pub asks : List (List ℕ) → Option Asked
 asks [] = None
 asks (word ∷ words) = option_and_then (λ command. option_and_then (asked_by command) (arguments words)) (command_of word)
 
 -- a value of the code as what is asked
 abbrev pub asked : Ask → Asked
-asked a = record { command = a.command; file = option_map (λ s. s.now) a.file; scheme = option_map (λ s. s.now) a.scheme }
+asked a = record { command = a.command; file = option_map (λ s. s.now) a.file; scheme = option_map (λ s. s.now) a.scheme; cap = a.cap; hcap = a.hcap }
+
+-- the sizes of what is asked are sizes
+abbrev pub HasSizes : Ask → Type 0
+HasSizes a = IsSize a.cap × IsSize a.hcap

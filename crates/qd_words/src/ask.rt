@@ -17,10 +17,16 @@ pub struct Ask<'a> {
     pub file: Option<&'a str>,
     /// The name of the scheme file; none where the built-in scheme is taken.
     pub scheme: Option<&'a str>,
+    /// How many items may wait for an agent of a stream: 1 to 4096.
+    pub cap: u16,
+    /// How many events may be owed to an agent of a history: 1 to 4096.
+    pub hcap: u16,
 }
 
 /// An option.
 #[derive(Clone, Copy, Debug, PartialEq, Eq)]
 pub enum Name {
     Scheme,
+    Cap,
+    Hcap,
 }

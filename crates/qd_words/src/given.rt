@@ -1,15 +1,16 @@
 ghost use Rattle.std.specs.Prelude.{◌≡◌, List, ℕ, ◌∷◌, Some, None, true, false, option_map};
 ghost use Rattle.qd_words.specs.Words.{same_text, is_option, end_of_options, name_in, value_in};
 ghost use Rattle.qd_words.specs.Asking.{name_of};
-ghost use Rattle.qd_words.specs.Given.{shown, nothing, with_value, with_positional, with_option, with_waited, with_word};
+ghost use Rattle.qd_words.specs.Given.{shown, nothing, with_option_value, with_positional, with_option, with_waited, with_word};
 
 use crate::ask::Name;
+use crate::values::Values;
 
-/// What the words so far give: the value of the option, the positional word, the option that waits for its value, and
+/// What the words so far give: the values of the options, the positional word, the option that waits for its value, and
 /// whether `--` was among the words.
 #[derive(Clone, Copy)]
 pub struct Given<'a> {
-    pub scheme: Option<&'a str>,
+    pub values: Values<'a>,
     pub word: Option<&'a str>,
     pub waiting: Option<Name>,
     pub ended: bool,
@@ -21,7 +22,7 @@ impl<'a> Given<'a> {
         ensures { shown result ≡ nothing }
     {
         Given {
-            scheme: None,
+            values: Values::new(),
             word: None,
             waiting: None,
             ended: false,
@@ -79,15 +80,10 @@ impl<'a> Given<'a> {
 
     /// The value of an option.
     fn with_value(self, name: Name, value: &'a str) -> Option<Given<'a>>
-        ensures { option_map shown result ≡ with_value (shown self.entry) name value.now }
+        ensures { option_map shown result ≡ with_option_value (shown self.entry) name value.now }
     {
-        match (name, self.scheme) {
-            (Name::Scheme, Some(_)) => None,
-            (Name::Scheme, None) => Some(Given {
-                scheme: Some(value),
-                ..self
-            }),
-        }
+        let values = self.values.with_value(name, value)?;
+        Some(Given { values, ..self })
     }
 
     /// The value that an option waited for.
@@ -132,8 +128,13 @@ fn is_option(word: &str) -> bool
 fn name_of(word: &str) -> Option<Name>
     ensures { result ≡ name_of word.now }
 {
-    if word.as_bytes() == b"--scheme".as_slice() {
+    let name = word.as_bytes();
+    if name == b"--scheme".as_slice() {
         Some(Name::Scheme)
+    } else if name == b"--cap".as_slice() {
+        Some(Name::Cap)
+    } else if name == b"--hcap".as_slice() {
+        Some(Name::Hcap)
     } else {
         None
     }

@@ -1,21 +1,32 @@
-ghost use Rattle.std.specs.Prelude.{◌≡◌, map, string_bytes, option_map, None};
-ghost use Rattle.qd_words.specs.Asking.{asks, asked, command_of, file_of};
+ghost use Rattle.std.specs.Prelude.{◌≡◌, ◌≤◌, map, string_bytes, option_map, None, IfSome};
+ghost use Rattle.qd_words.specs.Asking.{asks, asked, command_of, file_of, count_in, size_of, size_for, IsSize, HasSizes};
 ghost use Rattle.qd_words.specs.Given.{shown, nothing, given_by, finished, read_asked};
 
 use crate::ask::{Ask, Command};
 use crate::given::Given;
+use qd_decimal::read_count;
+
+/// The size where no option gives one.
+const DEFAULT_SIZE: u16 = 1024;
+
+const GREATEST_SIZE: u16 = 4096;
+
+/// The most bytes of a word that is read as a count, as of a line of text.
+const LONGEST_COUNT: usize = 4096;
 
 /// What the words ask for; none where they ask for nothing that is known.
 #[tactic(auto, using(crate::proofs::RestLaws::words_asked))]
 pub fn ask_of(words: &Vec<String>) -> Option<Ask<'_>>
-    ensures { option_map asked result ≡ asks (map string_bytes words.now.items) }
+    ensures asked { option_map asked result ≡ asks (map string_bytes words.now.items) }
+    ensures sizes { IfSome result HasSizes }
 {
     read(words.as_slice())
 }
 
 /// What the words ask for, one by one.
 fn read(words: &[String]) -> Option<Ask<'_>>
-    ensures { option_map asked result ≡ read_asked (map string_bytes words.now) }
+    ensures asked { option_map asked result ≡ read_asked (map string_bytes words.now) }
+    ensures sizes { IfSome result HasSizes }
 {
     match words {
         [] => None,
@@ -29,16 +40,56 @@ fn read(words: &[String]) -> Option<Ask<'_>>
 
 /// The command with the values that were given.
 fn asked_by(command: Command, given: Given<'_>) -> Option<Ask<'_>>
-    ensures { option_map asked result ≡ finished command (shown given.entry) }
+    ensures asked { option_map asked result ≡ finished command (shown given.entry) }
+    ensures sizes { IfSome result HasSizes }
 {
     if given.waiting.is_some() {
         return None;
     }
+    let cap = size_for(command, given.values.cap)?;
+    let hcap = size_for(command, given.values.hcap)?;
     Some(Ask {
         command,
         file: file_of(given.word),
-        scheme: given.scheme,
+        scheme: given.values.scheme,
+        cap,
+        hcap,
     })
+}
+
+/// The size that an option gives a command.
+fn size_for(command: Command, given: Option<&str>) -> Option<u16>
+    ensures size { result ≡ size_for command (option_map (λ s. s.now) given.entry) }
+    ensures within { IfSome result IsSize }
+{
+    match (command, given) {
+        (_, None) => Some(DEFAULT_SIZE),
+        (Command::Replay, Some(word)) => size_of(word),
+        (_, Some(_)) => None,
+    }
+}
+
+/// A size, as digits alone.
+fn size_of(word: &str) -> Option<u16>
+    ensures size { result ≡ size_of word.now }
+    ensures within { IfSome result IsSize }
+{
+    match count_of(word, GREATEST_SIZE.into())? {
+        0 => None,
+        size => Some(size as u16),
+    }
+}
+
+/// A count of at most `most`, as digits alone.
+fn count_of(word: &str, most: u64) -> Option<u64>
+    ensures value { result ≡ count_in most word.now }
+    ensures within { IfSome result (λ n. n ≤ most) }
+{
+    let digits = word.as_bytes();
+    if digits.len() > LONGEST_COUNT {
+        return None;
+    }
+    read_count(digits, most).ok()
 }
 
 /// What words give behind those before them.

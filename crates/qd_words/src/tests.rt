@@ -17,96 +17,150 @@ struct Case {
     command: Command,
     file: Option<&'static str>,
     scheme: Option<&'static str>,
+    cap: u16,
+    hcap: u16,
 }
 
-const ASKED: [Case; 14] = [
+const ASKED: [Case; 17] = [
     Case {
         words: "check|",
         command: Command::Check,
         file: None,
         scheme: None,
+        cap: 1024,
+        hcap: 1024,
     },
     Case {
         words: "fmt|",
         command: Command::Fmt,
         file: None,
         scheme: None,
+        cap: 1024,
+        hcap: 1024,
     },
     Case {
         words: "replay|",
         command: Command::Replay,
         file: None,
         scheme: None,
+        cap: 1024,
+        hcap: 1024,
     },
     Case {
         words: "check|a|",
         command: Command::Check,
         file: Some("a"),
         scheme: None,
+        cap: 1024,
+        hcap: 1024,
     },
     Case {
         words: "check|-|",
         command: Command::Check,
         file: None,
         scheme: None,
+        cap: 1024,
+        hcap: 1024,
     },
     Case {
         words: "check||",
         command: Command::Check,
         file: Some(""),
         scheme: None,
+        cap: 1024,
+        hcap: 1024,
     },
     Case {
         words: "fmt|--scheme|s|",
         command: Command::Fmt,
         file: None,
         scheme: Some("s"),
+        cap: 1024,
+        hcap: 1024,
     },
     Case {
         words: "fmt|--scheme=s|",
         command: Command::Fmt,
         file: None,
         scheme: Some("s"),
+        cap: 1024,
+        hcap: 1024,
     },
     Case {
         words: "fmt|--scheme=a=b|x|",
         command: Command::Fmt,
         file: Some("x"),
         scheme: Some("a=b"),
+        cap: 1024,
+        hcap: 1024,
     },
     Case {
         words: "fmt|x|--scheme|-|",
         command: Command::Fmt,
         file: Some("x"),
         scheme: Some("-"),
+        cap: 1024,
+        hcap: 1024,
     },
     Case {
         words: "fmt|--scheme=|",
         command: Command::Fmt,
         file: None,
         scheme: Some(""),
+        cap: 1024,
+        hcap: 1024,
     },
     Case {
         words: "fmt|--scheme=--x|",
         command: Command::Fmt,
         file: None,
         scheme: Some("--x"),
+        cap: 1024,
+        hcap: 1024,
     },
     Case {
         words: "fmt|--scheme|s|--|--scheme|",
         command: Command::Fmt,
         file: Some("--scheme"),
         scheme: Some("s"),
+        cap: 1024,
+        hcap: 1024,
     },
     Case {
         words: "fmt|--|-|",
         command: Command::Fmt,
         file: None,
         scheme: None,
+        cap: 1024,
+        hcap: 1024,
+    },
+    Case {
+        words: "replay|--cap|1|",
+        command: Command::Replay,
+        file: None,
+        scheme: None,
+        cap: 1,
+        hcap: 1024,
+    },
+    Case {
+        words: "replay|--hcap|0008|x|--cap=4096|--scheme|s|",
+        command: Command::Replay,
+        file: Some("x"),
+        scheme: Some("s"),
+        cap: 4096,
+        hcap: 8,
+    },
+    Case {
+        words: "replay|--scheme=s|--cap|04|x|",
+        command: Command::Replay,
+        file: Some("x"),
+        scheme: Some("s"),
+        cap: 4,
+        hcap: 1024,
     },
 ];
 
-const REFUSED: [&str; 16] = [
+const REFUSED: [&str; 31] = [
     "",
     "|",
     "serve|",
@@ -123,6 +177,21 @@ const REFUSED: [&str; 16] = [
     "check|--schema|a|",
     "check|-x|",
     "replay|--help|",
+    "replay|--hcap|4097|",
+    "replay|--hcap=0|--cap=4|",
+    "replay|--hcap=4|--hcap=4|",
+    "fmt|--hcap|4|",
+    "replay|--cap|",
+    "replay|--cap|0|",
+    "replay|--cap|4097|",
+    "replay|--cap|18446744073709551617|",
+    "replay|--cap=|",
+    "replay|--cap=+4|",
+    "replay|--cap=4 |",
+    "replay|--cap|x|",
+    "replay|--cap=4|--cap|4|",
+    "check|--cap|4|",
+    "fmt|x|--cap=4|",
 ];
 
 #[test]
@@ -137,6 +206,8 @@ fn words_ask_for_a_command_with_its_values(rt: HostRuntime) -> Result<(), Fail> 
             ask.scheme.unwrap_or("(none)"),
             case.scheme.unwrap_or("(none)")
         );
+        assert_eq!(rt; ask.cap, case.cap);
+        assert_eq!(rt; ask.hcap, case.hcap);
     }
     Ok(())
 }
