@@ -6,3 +6,4 @@ pub mod Updates
 pub mod Applying
 pub mod Followed
 pub mod Answering
+pub mod Sizes

@@ -305,6 +305,8 @@ impl Commits {
         requires { 0 < self.old.spare }
         ensures stands { (past : List Event) → StandsFor self.old.now past → StandsFor self.new.now (e.now ∷ past) }
         ensures answer { (past : List Event) → StandsFor self.old.now past → result ≡ answer_to (e.now ∷ past) }
+        ensures few { length self.new.now.held + length self.new.now.batch ≤ length self.old.now.held + 1 }
+        ensures more { length self.new.now.entries + length self.new.now.held ≤ length self.old.now.entries + length self.old.now.held + 1 }
         ensures spare { self.old.spare ≤ self.new.spare + 1 }
     {
         self.forget();

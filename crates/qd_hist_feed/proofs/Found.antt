@@ -19,7 +19,7 @@ use Rattle.qd_hist_rules.specs.Lawful.{width_of}
 use Rattle.qd_hist_rules.proofs.Numbers.{last_place}
 
 -- the cells at an index that is at or above all entries' bound
-none_from : (xs : List Entry) (i j : ℕ) → AllBelow i xs → i ≤ j → cells_at xs j ≡ None
+pub none_from : (xs : List Entry) (i j : ℕ) → AllBelow i xs → i ≤ j → cells_at xs j ≡ None
 none_from [] i j h le = refl
 none_from (x ∷ xs) i j h le = let lt : x.index < i = h.0 in rw (ne_eqb x.index j (λ e. omega (arith, e, lt, le))) (none_from xs i j h.1 le)
 

@@ -5,3 +5,5 @@ pub mod Found
 pub mod Flagged
 pub mod Giving
 pub mod Due
+pub mod Sizes
+pub mod InAll

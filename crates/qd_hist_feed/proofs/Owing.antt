@@ -1,5 +1,5 @@
 -- The events of a commit are owed one by one.
-use Rattle.std.proofs.Common.{◌≡◌, ℕ, zero, suc, ◌+◌, ◌<◌, Bool, true, false, ◌||◌, List, [], ◌∷◌, ◌++◌, length, drop, get_or, refl, sym, ◌∙◌, ap, arith, append_assoc, drop-cons, add-one}
+use Rattle.std.proofs.Common.{◌≡◌, ℕ, zero, suc, ◌+◌, ◌<◌, Bool, true, false, ◌||◌, List, [], ◌∷◌, ◌++◌, length, drop, get_or, refl, sym, ◌∙◌, ap, arith, append_assoc, length-append, drop-cons, add-one}
 use Rattle.std.specs.Prelude.{if◌then◌else◌, nat_le, nat_lt}
 use Rattle.std.proofs.lemmas.Bool.{le-ltb}
 use Rattle.std.proofs.lemmas.Bool.Decides.{nat_tests}
@@ -55,3 +55,10 @@ owed_step stage f n end i es e xs h at en =
   where
     cons : drop i es ≡ e ∷ drop (i + 1) es
     cons = drop-cons es i e h ∙ ap (λ (x : Event). x ∷ drop (suc i) es) (sym at) ∙ ap (λ (j : ℕ). e ∷ drop j es) (sym (add-one i))
+
+-- and how many they are
+pub owed_count : (stage : Stage) (f n end i : ℕ) (es : List Event) (e : Event) → i < length es → e ≡ get_or es i e → end ≡ end_of f es
+    → length (owed_item stage f (number_for stage n) (nat_lt (i + 1) end) e) + length (owed_items stage f n (drop (i + 1) es)) ≡ length (owed_items stage f n (drop i es))
+owed_count stage f n end i es e h at en =
+    sym (length-append (owed_item stage f (number_for stage n) (nat_lt (i + 1) end) e) (owed_items stage f n (drop (i + 1) es)))
+    ∙ ap {B = ℕ} (λ (xs : List HistItem). length xs) (owed_step stage f n end i es e [] h at en)

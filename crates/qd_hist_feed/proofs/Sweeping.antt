@@ -154,10 +154,10 @@ update_begun t a k e c m u =
     ap (λ (b : Bool). b && (standing t a (Came k e ∷ m) k).begin_given) (is_subscribed a k (Came k e ∷ m) ∙ ap is_some (limit_came a k k e m) ∙ sym (is_subscribed a k m))
     ∙ ap (λ (b : Bool). subscribed a k m && (not b && (standing t a m k).begin_given)) u.goes_on
 
-abbrev in_order : AgentFloor → Commit → List HistItem
+abbrev pub in_order : AgentFloor → Commit → List HistItem
 in_order f c = share_items f.index (Some c.number) (reverse c.events)
 
-share_is : (t : Terms) (a : ℕ) (k : Key) (c : Commit) (f : AgentFloor) (m : HistMoment) → agent_floor t.base a k m ≡ Some f → reverse (numbered c.number (share t.base a k m c)) ≡ in_order f c
+pub share_is : (t : Terms) (a : ℕ) (k : Key) (c : Commit) (f : AgentFloor) (m : HistMoment) → agent_floor t.base a k m ≡ Some f → reverse (numbered c.number (share t.base a k m c)) ≡ in_order f c
 share_is t a k c f m fl =
     ap (λ (o : Option AgentFloor). reverse (numbered c.number (share_from o c))) fl ∙ sym (share_in_order f.index c.number c.events)
 

@@ -1,5 +1,5 @@
 -- How far an agent has come with one key, and what each step leaves of that.
-use Rattle.std.specs.Prelude.{ℕ, ◌+◌, ◌-◌, ◌≤◌, Bool, true, false, ◌&&◌, ◌==◌, nat_le, nat_lt, pos, List, [], ◌∷◌, ◌++◌, replicate, Option, Some, None, option_map, if◌then◌else◌}
+use Rattle.std.specs.Prelude.{ℕ, ◌+◌, ◌-◌, Bool, true, false, ◌&&◌, ◌==◌, nat_le, nat_lt, pos, List, [], ◌∷◌, ◌++◌, replicate, Option, Some, None, option_map, if◌then◌else◌}
 use Rattle.std.specs.List.{list_any}
 use Rattle.qd_scheme.specs.declared.key.Key.{Key}
 use Rattle.qd_scheme.specs.declared.key.Event.{Event}
@@ -35,6 +35,11 @@ has_ended Ended = true
 abbrev pub is_empty : List HistItem → Bool
 is_empty [] = true
 is_empty (i ∷ is) = false
+
+abbrev pub is_waiting : Stage → Bool
+is_waiting Waiting = true
+is_waiting (Sweeping place) = false
+is_waiting Ended = false
 
 -- nothing is to be given
 abbrev pub is_done : Feeding → Bool
@@ -139,11 +144,6 @@ left_by_next (Sweeping place) [] state floor = record { stage = stage_after floo
 
 abbrev pub after_next : Feeding → Kept → AgentFloor → Feeding
 after_next s state floor = left_by_next s.stage s.owed state floor
-
--- an event has at most 16 cells
-abbrev pub FewCells : Option ℕ → Type 0
-FewCells None = Unit {0}
-FewCells (Some width) = width ≤ 16
 
 -- how many events there are up to the last one at or above the floor
 abbrev pub end_of : ℕ → List Event → ℕ

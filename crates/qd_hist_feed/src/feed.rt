@@ -1,7 +1,7 @@
 //! The feed of an agent and a key.
-ghost use Rattle.std.specs.Prelude.{◌≡◌, ◌+◌, ◌<◌, ◌≤◌, ◌++◌, length, OnOk};
+ghost use Rattle.std.specs.Prelude.{◌≡◌, ℕ, ◌+◌, ◌-◌, ◌≤◌, ◌++◌, length, OnOk};
 ghost use Rattle.std.specs.VecDeque.{deque_capacity, deque_len};
-ghost use Rattle.qd_hist_feed.specs.Feeding.{nothing, is_done, is_swept, number_for, owed_item, owed_items, with_commit, next_item, after_next, stage_after, FewCells, end_of};
+ghost use Rattle.qd_hist_feed.specs.Feeding.{nothing, is_waiting, is_done, is_swept, number_for, owed_item, owed_items, with_commit, next_item, after_next, stage_after, end_of};
 
 use crate::item::{share_item, sweep_item};
 use qd_hist_key::KeyState;
@@ -79,6 +79,13 @@ impl Feed {
         self.owed.len()
     }
 
+    /// The snapshot is not begun.
+    pub fn is_waiting(&self) -> bool
+        ensures { result ≡ is_waiting self.now.now.stage }
+    {
+        matches!(self.stage, Stage::Waiting)
+    }
+
     /// The snapshot is ended, and nothing is owed.
     pub fn is_done(&self) -> bool
         ensures { result ≡ is_done self.now.now }
@@ -98,15 +105,16 @@ impl Feed {
     /// What is owed is dropped, and the snapshot is to be begun anew. The room stays.
     pub fn restart(&mut self)
         ensures now { self.new.now ≡ nothing }
-        ensures spare { self.old.spare ≤ self.new.spare }
+        ensures spare { self.new.spare ≡ self.old.spare + length self.old.now.owed }
     {
         self.stage = Stage::Waiting;
         self.owed.clear();
     }
 
-    /// How many of a commit's events come to be owed, above the agent's floor. The events are in order.
+    /// How many of a commit's events come to be owed, above the agent's floor, whatever the commit's number. The events are in order.
     pub fn share_of(&self, batch: &[Event], floor: u64) -> usize
-        ensures { result ≡ length (owed_items self.now.now.stage floor 0 batch.now) }
+        ensures share { (number : ℕ) → result ≡ length (owed_items self.now.now.stage floor number batch.now) }
+        ensures within { result ≤ length batch.now }
     {
         let mut count = 0;
         for e in batch {
@@ -119,9 +127,9 @@ impl Feed {
 
     /// A commit that is no snapshot commit was made, of these events in order. No memory is taken.
     pub fn commit(&mut self, batch: &[Event], floor: u64, number: u64)
-        requires { length batch.now ≤ self.old.spare }
+        requires { length (owed_items self.old.now.stage floor number batch.now) ≤ self.old.spare }
         ensures now { self.new.now ≡ with_commit self.old.now floor number batch.now }
-        ensures spare { self.old.spare ≤ self.new.spare + length batch.now }
+        ensures spare { self.old.spare ≡ self.new.spare + length (owed_items self.old.now.stage floor number batch.now) }
     {
         let end = share_end(batch, floor);
         let stage = self.stage;
@@ -137,10 +145,10 @@ impl Feed {
         floor: &AgentFloor,
         number: u64,
     ) -> Option<HistItem>
-        requires cells { FewCells state.now.width }
         ensures item { result ≡ next_item self.old.now key.now state.now floor.now number }
         ensures left { self.new.now ≡ after_next self.old.now state.now floor.now }
-        ensures spare { self.old.spare ≤ self.new.spare }
+        ensures fewer { length self.new.now.owed ≡ length self.old.now.owed - 1 }
+        ensures spare { self.new.spare + length self.new.now.owed ≡ self.old.spare + length self.old.now.owed }
     {
         if let Some(item) = self.owed.pop_front() {
             return Some(item);
@@ -195,10 +203,10 @@ fn owe(
     number: u64,
 )
     requires end { end ≡ end_of floor batch.now }
-    requires room { deque_len owed.old + length batch.now ≤ deque_capacity owed.old }
+    requires room { deque_len owed.old + length (owed_items stage.now floor number batch.now) ≤ deque_capacity owed.old }
     ensures items { owed.new.items ≡ owed.old.items ++ owed_items stage.now floor number batch.now }
     ensures capacity { deque_capacity owed.new ≡ deque_capacity owed.old }
-    ensures len { deque_len owed.new ≤ deque_len owed.old + length batch.now }
+    ensures len { deque_len owed.new ≡ deque_len owed.old + length (owed_items stage.now floor number batch.now) }
 {
     let number = stage.number_for(number);
     for (i, e) in batch.iter().enumerate() {
@@ -215,10 +223,10 @@ fn owe_one(
     pending: bool,
     e: &Event,
 )
-    requires { deque_len owed.old < deque_capacity owed.old }
+    requires { deque_len owed.old + length (owed_item stage.now floor number pending e.now) ≤ deque_capacity owed.old }
     ensures items { owed.new.items ≡ owed.old.items ++ owed_item stage.now floor number pending e.now }
     ensures capacity { deque_capacity owed.new ≡ deque_capacity owed.old }
-    ensures len { deque_len owed.new ≤ deque_len owed.old + 1 }
+    ensures len { deque_len owed.new ≡ deque_len owed.old + length (owed_item stage.now floor number pending e.now) }
 {
     if e.index >= floor && stage.is_swept(e.index) {
         let _ = owed.push_back(share_item(number, pending, e));

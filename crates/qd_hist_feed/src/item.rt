@@ -1,6 +1,7 @@
 //! The items that a feed gives.
 ghost use Rattle.std.specs.Prelude.{◌≡◌, ◌≤◌, ℕ, None, Some};
-ghost use Rattle.qd_hist_feed.specs.Feeding.{FewCells, item_of, begin_flags, end_flags, kept_item, end_item, zeros, sweep_item};
+ghost use Rattle.qd_hist_feed.specs.Feeding.{item_of, begin_flags, end_flags, kept_item, end_item, zeros, sweep_item};
+ghost use Rattle.qd_hist_key.specs.Keeping.{FewCells};
 ghost use Rattle.qd_hist_rules.specs.Agent.{passed};
 
 use qd_flags::Flags;

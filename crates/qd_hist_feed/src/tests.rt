@@ -62,20 +62,17 @@ fn put(p: &mut Pair, events: &[Put]) -> Result<(), Fail> {
 
 fn commit(p: &mut Pair) -> Result<(), Fail> {
     let batch = p.state.batch();
-    if batch.len() > 100 {
+    let share = p.feed.share_of(batch, p.floor.index);
+    if share > 100 {
         return Err(Fail::from("a large commit"));
     }
-    p.feed.reserve(batch.len() as u32)?;
+    p.feed.reserve(share as u32)?;
     p.feed.commit(batch, p.floor.index, p.number);
     Ok(())
 }
 
 /// The next item.
 fn next(p: &mut Pair) -> Option<Given> {
-    match p.state.width() {
-        Some(width) if width > 16 => return None,
-        _ => (),
-    }
     let HistItem { event, at } = p.feed.next(&p.key, &p.state, &p.floor, p.number)?;
     let first = event.cells.values().first().copied()?;
     Some((event.index, event.flags, first, at))

@@ -1,5 +1,5 @@
 -- What the state of a key stands for.
-use Rattle.std.specs.Prelude.{◌≡◌, ℕ, Bool, List, [], ◌∷◌, length, Option, Some, None, if◌then◌else◌}
+use Rattle.std.specs.Prelude.{◌≡◌, ℕ, ◌^◌, ◌<◌, ◌≤◌, Bool, List, [], ◌∷◌, length, Option, Some, None, if◌then◌else◌}
 use Rattle.qd_scheme.specs.declared.key.Event.{Event}
 use Rattle.qd_flags.specs.declared.commits.Floor.{Floor}
 use Rattle.qd_flags.specs.Bits.{is_begin}
@@ -15,6 +15,19 @@ begin_width (e ∷ es) = if is_begin e then Some (length e.cells) else begin_wid
 pub record StandsFor (s : Kept) (past : List Event) : Type 0 where
   pub now : following.StandsFor s.now past
   pub width_is : s.width ≡ begin_width past
+
+-- an index is a u64, and an event has at most 16 cells
+abbrev pub Fits : Event → Type 0
+Fits e = (e.index < 2 ^ 64) × (length e.cells ≤ 16)
+
+abbrev pub AllFit : List Event → Type 0
+AllFit [] = Unit {0}
+AllFit (e ∷ es) = Fits e × AllFit es
+
+-- an event has at most 16 cells, by how many the last BEGIN event has
+abbrev pub FewCells : Option ℕ → Type 0
+FewCells None = Unit {0}
+FewCells (Some width) = width ≤ 16
 
 abbrev pub floor_and_snip : Floor → ℕ × Bool
 floor_and_snip f = (f.index, f.snipped)

@@ -1,11 +1,11 @@
 //! The state of one key.
-ghost use Rattle.std.specs.Prelude.{◌≡◌, ◌+◌, ◌<◌, ◌≤◌, ◌∷◌, [], List, length, OnOk, IfOk, Some, option_map, if◌then◌else◌};
+ghost use Rattle.std.specs.Prelude.{◌≡◌, ◌+◌, ◌^◌, ◌<◌, ◌≤◌, ◌∷◌, [], List, length, OnOk, IfOk, IfSome, Some, None, option_map, if◌then◌else◌};
 ghost use Rattle.qd_scheme.specs.declared.key.Event.{Event};
-ghost use Rattle.qd_entries.specs.Entries.{entry_at_or_below};
+ghost use Rattle.qd_entries.specs.Entries.{AllBelow, entry_at_or_below};
 ghost use Rattle.qd_flags.specs.Bits.{is_begin};
-ghost use Rattle.qd_flags.specs.Following.{answer_to};
+ghost use Rattle.qd_flags.specs.Following.{answer_to, nothing};
 ghost use Rattle.qd_flags.specs.Listening.{pair_of};
-ghost use Rattle.qd_hist_key.specs.Keeping.{StandsFor, floor_and_snip, snip_floor};
+ghost use Rattle.qd_hist_key.specs.Keeping.{StandsFor, Fits, FewCells, floor_and_snip, snip_floor};
 
 use qd_flags::{Commits, Ingest, NoMemory, begins_snapshot};
 use qd_scheme::{Cells, Event};
@@ -27,15 +27,19 @@ impl Model for KeyState {
 
     ghost Value = { Kept };
 
-    ghost use Rattle.qd_hist_key.specs.Inside.{kept};
+    ghost use Rattle.qd_hist_key.specs.Inside.{kept, HasPast};
 
     ghost view = { kept };
+
+    ghost invariant = { HasPast };
 }
 
 impl KeyState {
     /// No events came, and there is no room.
     pub fn new(alloc: Global) -> Result<KeyState, NoMemory>
         ensures stands { IfOk result (λ state. StandsFor state []) }
+        ensures now { IfOk result (λ state. state.now ≡ nothing) }
+        ensures width { IfOk result (λ state. state.width ≡ None) }
     {
         Ok(KeyState {
             commits: Commits::new(alloc),
@@ -58,15 +62,19 @@ impl KeyState {
         requires { 0 < self.old.spare }
         ensures stands { (past : List Event) → StandsFor self.old past → StandsFor self.new (e.now ∷ past) }
         ensures answer { (past : List Event) → StandsFor self.old past → result ≡ answer_to (e.now ∷ past) }
+        ensures few { length self.new.now.held + length self.new.now.batch ≤ length self.old.now.held + 1 }
+        ensures more { length self.new.now.entries + length self.new.now.held ≤ length self.old.now.entries + length self.old.now.held + 1 }
         ensures spare { self.old.spare ≤ self.new.spare + 1 }
     {
+        see_fits(e);
         self.width = width_after(self.width, e);
         self.commits.ingest(e)
     }
 
     /// The floor of the last commit, and whether it was snipped there.
     pub fn floor(&self) -> Option<(u64, bool)>
-        ensures { result ≡ option_map floor_and_snip self.now.now.floor }
+        ensures floor { result ≡ option_map floor_and_snip self.now.now.floor }
+        ensures low { IfSome self.now.now.floor (λ f. f.index < 2 ^ 64) }
     {
         match self.commits.floor() {
             Some(floor) => Some((floor.index, floor.snipped)),
@@ -86,7 +94,8 @@ impl KeyState {
 
     /// How many entries the map of the last commit has.
     pub fn kept(&self) -> u32
-        ensures { result ≡ length self.now.now.entries }
+        ensures len { result ≡ length self.now.now.entries }
+        ensures low { AllBelow (2 ^ 64) self.now.now.entries }
     {
         self.commits.len()
     }
@@ -117,7 +126,8 @@ impl KeyState {
 
     /// How many cells the last BEGIN event has.
     pub fn width(&self) -> Option<u8>
-        ensures { result ≡ self.now.width }
+        ensures width { result ≡ self.now.width }
+        ensures few { FewCells self.now.width }
     {
         self.width
     }
@@ -125,6 +135,7 @@ impl KeyState {
     /// The state is that of no events; the room stays.
     pub fn clear(&mut self)
         ensures stands { StandsFor self.new [] }
+        ensures now { self.new.now ≡ nothing }
         ensures spare { self.old.spare ≤ self.new.spare }
     {
         self.commits.clear();
@@ -141,4 +152,12 @@ fn width_after(width: Option<u8>, e: &Event) -> Option<u8>
     } else {
         width
     }
+}
+
+/// An event has a u64 index and at most 16 cells. No work is done.
+fn see_fits(e: &Event)
+    ensures { Fits e.now }
+{
+    let _index = e.index;
+    let _cells = e.cells.values();
 }

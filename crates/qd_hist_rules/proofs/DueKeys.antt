@@ -48,7 +48,7 @@ no_mark a k (Closed b) m h = refl
 no_mark a k (Gave b j i) m h = refl
 no_mark a k (Told w j x) m h = refl
 
-elsewhere : (a : ℕ) (k : Key) (act : HistAct) (m : HistMoment) → is_about key_eq k (newest_key (act ∷ m)) ≡ false → Elsewhere a k act
+pub elsewhere : (a : ℕ) (k : Key) (act : HistAct) (m : HistMoment) → is_about key_eq k (newest_key (act ∷ m)) ≡ false → Elsewhere a k act
 elsewhere a k (Came j e) m h = record { no_put = h; no_gift = refl; no_sub = refl }
 elsewhere a k (Subscribed b j l) m h = record { no_put = refl; no_gift = refl; no_sub = and_right (nat_eq a b) (key_eq k j) h }
 elsewhere a k (Unsubscribed b j) m h = record { no_put = refl; no_gift = refl; no_sub = refl }
@@ -57,14 +57,14 @@ elsewhere a k (Gave b j i) m h = record { no_put = refl; no_gift = and_right (na
 elsewhere a k (Told w j x) m h = record { no_put = refl; no_gift = refl; no_sub = refl }
 elsewhere a k (Full b j) m h = record { no_put = refl; no_gift = refl; no_sub = refl }
 
-made_not : (base : ℕ) (k : Key) (act : HistAct) (m : HistMoment) → is_put k act ≡ false → made base k (act ∷ m) ≡ None
+pub made_not : (base : ℕ) (k : Key) (act : HistAct) (m : HistMoment) → is_put k act ≡ false → made base k (act ∷ m) ≡ None
 made_not base k act m h = rw h refl
 
-last_unwanted : (base : ℕ) (k : Key) (m : HistMoment) → wanted k m ≡ false → last base k m ≡ None
+pub last_unwanted : (base : ℕ) (k : Key) (m : HistMoment) → wanted k m ≡ false → last base k m ≡ None
 last_unwanted base k [] h = refl
 last_unwanted base k (act ∷ m) h = if_false (wanted k (act ∷ m)) (or_else (made base k (act ∷ m)) (last base k m)) None h
 
-last_elsewhere : (base : ℕ) (k : Key) (act : HistAct) (m : HistMoment) → made base k (act ∷ m) ≡ None → wanted k (act ∷ m) ≡ wanted k m → last base k (act ∷ m) ≡ last base k m
+pub last_elsewhere : (base : ℕ) (k : Key) (act : HistAct) (m : HistMoment) → made base k (act ∷ m) ≡ None → wanted k (act ∷ m) ≡ wanted k m → last base k (act ∷ m) ≡ last base k m
 last_elsewhere base k act m n w =
     ap (λ (o : Option Commit). if wanted k (act ∷ m) then or_else o (last base k m) else None) n
     ∙ ap (λ (b : Bool). if b then last base k m else None) w ∙ go (cases_Bool (wanted k m))

@@ -13,3 +13,5 @@ pub mod LegalLogs
 pub mod LastCommits
 pub mod DueKeys
 pub mod DueOrder
+pub mod Sums
+pub mod Stock

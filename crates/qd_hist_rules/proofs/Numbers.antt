@@ -139,7 +139,7 @@ no_place base k e m w h = go (shown (source k (Came k e ∷ m))) refl
         cc j
 
 -- an act that makes no commit of the key leaves what the source's last commit place shows
-last_shown_stays : (base : ℕ) (k : Key) (act : HistAct) (m : HistMoment) → wanted k (act ∷ m) ≡ true → made base k (act ∷ m) ≡ None → last_shown (source k (act ∷ m)) ≡ last_shown (source k m)
+pub last_shown_stays : (base : ℕ) (k : Key) (act : HistAct) (m : HistMoment) → wanted k (act ∷ m) ≡ true → made base k (act ∷ m) ≡ None → last_shown (source k (act ∷ m)) ≡ last_shown (source k m)
 last_shown_stays base k act m w n = go (cases_Bool (is_put k act))
   where
     came : (e : Event) → act ≡ Came k e → last_shown (source k (act ∷ m)) ≡ last_shown (source k m)
