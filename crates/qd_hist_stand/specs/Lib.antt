@@ -1,0 +1,3 @@
+pub mod Stripes
+pub mod Steps
+pub mod Laws
