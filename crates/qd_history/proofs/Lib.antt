@@ -1,0 +1,11 @@
+pub mod OwedLaws
+pub mod StepLaws
+pub mod EachSide
+pub mod SoundLaws
+pub mod RoomLaws
+pub mod WalkLaws
+pub mod RoomierLaws
+pub mod TallyLaws
+pub mod PutLaws
+pub mod TermLaws
+pub mod GiveLaws
