@@ -5,7 +5,6 @@ use Rattle.qd_grammar.specs.declared.item.Item.{Item}
 use Rattle.qd_grammar.specs.declared.item.Message.{Message}
 use Rattle.qd_grammar.specs.declared.item.Mode.{Mode}
 use Rattle.qd_grammar.specs.declared.item.Mode.TheVariants.{File}
-use Rattle.qd_items.specs.declared.ends.Limit.{Limit}
 use Rattle.qd_items.specs.declared.ends.RunEnd.{RunEnd}
 use Rattle.qd_items.specs.declared.ends.RunEnd.TheVariants as ends
 use Rattle.qd_items.specs.declared.ends.TextEnd.{TextEnd}
@@ -19,12 +18,15 @@ use Rattle.qd_items.proofs.DecidingLaws.{decided_end, decided_lines}
 use Rattle.qd_outside.specs.Causes.{Rose}
 use Rattle.qd_outside.specs.Reading.{Took}
 use Rattle.qd_scheme.specs.declared.defs.RecordDef.{RecordDef}
+use Rattle.qd_replay.specs.declared.stripes.Refusal.{Refusal}
+use Rattle.qd_replay.specs.declared.stripes.Refusal.TheVariants as refusals
 use Rattle.qd_replay.specs.Calls.{Call, Act}
 use Rattle.qd_replay.specs.Calls.Act.{Ask}
 use Rattle.qd_replay.specs.Deciding.{NoneBad, NeverRefused, IsSound, NoFault}
 use Rattle.qd_replay.specs.Ends.{Outside, stop_at, IsOfItem, IsOfText, IsCaused, IsBegun, Ends}
 use Rattle.qd_replay.specs.Running.{Logs, IsRefused}
 use Rattle.qd_replay.specs.Scripts.{script_of, acts_with, acts_of, is_bad}
+use Rattle.qd_replay.specs.Settings.{Caps, Setting}
 use Rattle.qd_replay.specs.Steps.{Stops}
 
 -- the items of more lines are more items
@@ -61,54 +63,54 @@ record AreFirst (defs : List RecordDef) (lines first : List (List ℕ)) : Type 0
   more : List (List ℕ)
   whole : lines ≡ more ++ first
 
-first_lines : (defs : List RecordDef) (text : List ℕ) (s : IsSound defs text) (p : Past) (rest : List ℕ) (left : Option (List ℕ)) (before after : ℕ) (last : Numbered) (ended : Bool)
+first_lines : (set : Setting) (text : List ℕ) (s : IsSound set text) (p : Past) (rest : List ℕ) (left : Option (List ℕ)) (before after : ℕ) (last : Numbered) (ended : Bool)
     → IsTaken p rest → Took (Some text) left p.taken → after ≡ before → (Rose before after → ⊥) → last.line ≡ length p.lines
-    → is_end last.item ≡ ended → stop_of File defs p.lines ≡ stop_at last → AreFirst defs s.lines p.lines
-first_lines defs text s p rest left before after last true bytes took same none newest e stop =
-    let at : stop_of File defs p.lines ≡ AtEnd (length p.lines) = stop ∙ (rw (e, newest) refl) in
-    ended_first (decided_end File defs text texts.End texts.End p rest left before after s.lines (record { bytes = bytes; took = took; cause = (at, same) }) none s.decides)
+    → is_end last.item ≡ ended → stop_of File set.defs p.lines ≡ stop_at last → AreFirst set.defs s.lines p.lines
+first_lines set text s p rest left before after last true bytes took same none newest e stop =
+    let at : stop_of File set.defs p.lines ≡ AtEnd (length p.lines) = stop ∙ (rw (e, newest) refl) in
+    ended_first (decided_end File set.defs text texts.End texts.End p rest left before after s.lines (record { bytes = bytes; took = took; cause = (at, same) }) none s.decides)
   where
-    ended_first : ((texts.End ≡ texts.End) × (p.lines ≡ s.lines)) ⊎ (texts.End ≡ texts.NoMemory) → AreFirst defs s.lines p.lines
+    ended_first : ((texts.End ≡ texts.End) × (p.lines ≡ s.lines)) ⊎ (texts.End ≡ texts.NoMemory) → AreFirst set.defs s.lines p.lines
     ended_first (inl d) = record { more = []; whole = sym d.1 }
     ended_first (inr d) = absurd (cc)
-first_lines defs text s p rest left before after last false bytes took same none newest e stop =
-    let open_stop : stop_of File defs p.lines ≡ Open = stop ∙ (rw e refl) in
+first_lines set text s p rest left before after last false bytes took same none newest e stop =
+    let open_stop : stop_of File set.defs p.lines ≡ Open = stop ∙ (rw e refl) in
     let tail = took_some text left p.taken took in
-    let first = decided_lines File defs text tail.0 p rest texts.End s.lines tail.1 bytes open_stop s.decides in
+    let first = decided_lines File set.defs text tail.0 p rest texts.End s.lines tail.1 bytes open_stop s.decides in
     record { more = first.0; whole = first.1 }
 
 -- an end that the last item is the cause of
-stops_decided : (end : RunEnd) (message : Option Message) (item : Item) (line : ℕ) (later : List Act) (logs : Logs) (before after : ℕ)
-    → Stops end message item line later logs before after → (is_bad message item ≡ true → ⊥)
-    → ((limit : Limit) (call : Call) (more : List Act) → later ≡ more ++ Ask call ∷ [] → IsRefused limit call logs → ⊥) → (Rose before after → ⊥)
+stops_decided : (end : RunEnd) (caps : Caps) (message : Option Message) (item : Item) (line : ℕ) (later : List Act) (logs : Logs) (before after : ℕ)
+    → Stops end caps message item line later logs before after → (is_bad message item ≡ true → ⊥)
+    → ((refusal : Refusal) (call : Call) (more : List Act) → later ≡ more ++ Ask call ∷ [] → IsRefused caps refusal call logs → ⊥) → (Rose before after → ⊥)
     → (end ≡ ends.Done) ⊎ (end ≡ ends.NoMemory)
-stops_decided ends.Done message item line later logs before after c bad refused rose = inl refl
-stops_decided ends.NoMemory message item line later logs before after c bad refused rose = inr refl
-stops_decided (ends.BadStep n) message item line later logs before after c bad refused rose = absurd (bad c.0)
-stops_decided (ends.Refused n limit) message item line later logs before after c bad refused rose = absurd (refused limit c.1 c.2 c.3 c.4)
-stops_decided ends.WriteFault message item line later logs before after c bad refused rose = absurd (rose c)
-stops_decided (ends.CutOff n) message item line later logs before after c bad refused rose = absurd c
-stops_decided (ends.Bad b) message item line later logs before after c bad refused rose = absurd c
-stops_decided (ends.LineTooLong n) message item line later logs before after c bad refused rose = absurd c
-stops_decided ends.TooMuch message item line later logs before after c bad refused rose = absurd c
-stops_decided ends.ReadFault message item line later logs before after c bad refused rose = absurd c
-stops_decided ends.Spent message item line later logs before after c bad refused rose = absurd c
+stops_decided ends.Done caps message item line later logs before after c bad refused rose = inl refl
+stops_decided ends.NoMemory caps message item line later logs before after c bad refused rose = inr refl
+stops_decided (ends.BadStep n) caps message item line later logs before after c bad refused rose = absurd (bad c.0)
+stops_decided (ends.Refused n limit) caps message item line later logs before after c bad refused rose = absurd (refused (refusals.TooMany limit) c.1 c.2 c.3 c.4)
+stops_decided ends.WriteFault caps message item line later logs before after c bad refused rose = absurd (rose c)
+stops_decided (ends.CutOff n) caps message item line later logs before after c bad refused rose = absurd c
+stops_decided (ends.Bad b) caps message item line later logs before after c bad refused rose = absurd c
+stops_decided (ends.LineTooLong n) caps message item line later logs before after c bad refused rose = absurd c
+stops_decided ends.TooMuch caps message item line later logs before after c bad refused rose = absurd c
+stops_decided ends.ReadFault caps message item line later logs before after c bad refused rose = absurd c
+stops_decided ends.Spent caps message item line later logs before after c bad refused rose = absurd (refused refusals.Spent c.0 c.1 c.2 c.3)
 
-decided_item : (defs : List RecordDef) (end : RunEnd) (o w : Outside) (text : List ℕ) (s : IsSound defs text) (p : Past) (rest : List ℕ) (later done : List Act) (logs : Logs) (out : List ℕ)
-    → IsBegun defs p rest later done logs out o w → Took (Some text) w.left p.taken → NoFault o.reads w.reads o.writes w.writes
-    → IsOfItem end (items_of File defs p.lines) (length p.lines) (stop_of File defs p.lines) later done logs o w → (end ≡ ends.Done) ⊎ (end ≡ ends.NoMemory)
-decided_item defs end o w text s p rest later done logs out b took n i =
-    let first = first_lines defs text s p rest w.left o.reads w.reads i.last (is_end i.last.item) b.bytes took i.reads n.0 i.newest refl i.stop_is in
-    let more = items_more File defs first.more p.lines in
-    let all : items_of File defs s.lines ≡ more.0 ++ items_of File defs p.lines = ap (items_of File defs) first.whole ∙ more.1 in
-    let these : items_of File defs s.lines ≡ more.0 ++ i.last ∷ i.before = all ∙ ap (λ (l : List Numbered). more.0 ++ l) i.items_are in
+decided_item : (set : Setting) (end : RunEnd) (o w : Outside) (text : List ℕ) (s : IsSound set text) (p : Past) (rest : List ℕ) (later done : List Act) (logs : Logs) (out : List ℕ)
+    → IsBegun set p rest later done logs out o w → Took (Some text) w.left p.taken → NoFault o.reads w.reads o.writes w.writes
+    → IsOfItem end set.caps (items_of File set.defs p.lines) (length p.lines) (stop_of File set.defs p.lines) later done logs o w → (end ≡ ends.Done) ⊎ (end ≡ ends.NoMemory)
+decided_item set end o w text s p rest later done logs out b took n i =
+    let first = first_lines set text s p rest w.left o.reads w.reads i.last (is_end i.last.item) b.bytes took i.reads n.0 i.newest refl i.stop_is in
+    let more = items_more File set.defs first.more p.lines in
+    let all : items_of File set.defs s.lines ≡ more.0 ++ items_of File set.defs p.lines = ap (items_of File set.defs) first.whole ∙ more.1 in
+    let these : items_of File set.defs s.lines ≡ more.0 ++ i.last ∷ i.before = all ∙ ap (λ (l : List Numbered). more.0 ++ l) i.items_are in
     let sound = rw these at s.none_bad in
     let good : is_bad (script_of i.before).message i.last.item ≡ false = none_bad more.0 i.last i.before sound in
-    let acts = acts_more more.0 (items_of File defs p.lines) in
-    let led : acts_of (items_of File defs s.lines) ≡ acts.0 ++ (later ++ done) = ap acts_of all ∙ acts.1 ∙ ap (λ (l : List Act). acts.0 ++ l) b.acts in
-    stops_decided end (script_of i.before).message i.last.item i.last.line later logs o.writes w.writes i.cause
+    let acts = acts_more more.0 (items_of File set.defs p.lines) in
+    let led : acts_of (items_of File set.defs s.lines) ≡ acts.0 ++ (later ++ done) = ap acts_of all ∙ acts.1 ∙ ap (λ (l : List Act). acts.0 ++ l) b.acts in
+    stops_decided end set.caps (script_of i.before).message i.last.item i.last.line later logs o.writes w.writes i.cause
     (λ bad. not_both good bad)
-    (λ limit call first_acts e r. s.granted (acts.0 ++ first_acts) done call logs out limit
+    (λ refusal call first_acts e r. s.granted (acts.0 ++ first_acts) done call logs out refusal
     (led ∙ ap (λ (l : List Act). acts.0 ++ (l ++ done)) e ∙ ap (λ (l : List Act). acts.0 ++ l) (append_assoc first_acts (Ask call ∷ []) done) ∙ sym (append_assoc acts.0 first_acts (Ask call ∷ done)))
     b.ran b.legal r)
     n.1
@@ -116,21 +118,21 @@ decided_item defs end o w text s p rest later done logs out b took n i =
     not_both : {b : Bool} → b ≡ false → b ≡ true → ⊥
     not_both p q = cc
 
-decided_text : (defs : List RecordDef) (end : RunEnd) (o w : Outside) (text : List ℕ) (s : IsSound defs text) (p : Past) (rest : List ℕ) (later : List Act)
+decided_text : (set : Setting) (end : RunEnd) (o w : Outside) (text : List ℕ) (s : IsSound set text) (p : Past) (rest : List ℕ) (later : List Act)
     → IsTaken p rest → Took (Some text) w.left p.taken → NoFault o.reads w.reads o.writes w.writes
-    → IsOfText end (items_of File defs p.lines) (length p.lines) (stop_of File defs p.lines) later rest (length p.taken) o w → (end ≡ ends.Done) ⊎ (end ≡ ends.NoMemory)
-decided_text defs end o w text s p rest later bytes took n t =
-    by_end (decided_end File defs text t.text_end texts.End p rest w.left o.reads w.reads s.lines (record { bytes = bytes; took = took; cause = t.cause }) n.0 s.decides)
+    → IsOfText end (items_of File set.defs p.lines) (length p.lines) (stop_of File set.defs p.lines) later rest (length p.taken) o w → (end ≡ ends.Done) ⊎ (end ≡ ends.NoMemory)
+decided_text set end o w text s p rest later bytes took n t =
+    by_end (decided_end File set.defs text t.text_end texts.End p rest w.left o.reads w.reads s.lines (record { bytes = bytes; took = took; cause = t.cause }) n.0 s.decides)
   where
     by_end : ((t.text_end ≡ texts.End) × (p.lines ≡ s.lines)) ⊎ (t.text_end ≡ texts.NoMemory) → (end ≡ ends.Done) ⊎ (end ≡ ends.NoMemory)
     by_end (inl d) = absurd (t.early d.0)
     by_end (inr d) = inr (t.end_is ∙ ap run_end d)
 
-decided_cause : (defs : List RecordDef) (end : RunEnd) (o w : Outside) (text : List ℕ) (s : IsSound defs text) (p : Past) (rest : List ℕ) (later done : List Act) (logs : Logs) (out : List ℕ)
-    → IsBegun defs p rest later done logs out o w → Took (Some text) w.left p.taken → NoFault o.reads w.reads o.writes w.writes
-    → IsCaused end defs p rest later done logs o w → (end ≡ ends.Done) ⊎ (end ≡ ends.NoMemory)
-decided_cause defs end o w text s p rest later done logs out b took n (inl i) = decided_item defs end o w text s p rest later done logs out b took n i
-decided_cause defs end o w text s p rest later done logs out b took n (inr t) = decided_text defs end o w text s p rest later b.bytes took n t
+decided_cause : (set : Setting) (end : RunEnd) (o w : Outside) (text : List ℕ) (s : IsSound set text) (p : Past) (rest : List ℕ) (later done : List Act) (logs : Logs) (out : List ℕ)
+    → IsBegun set p rest later done logs out o w → Took (Some text) w.left p.taken → NoFault o.reads w.reads o.writes w.writes
+    → IsCaused end set p rest later done logs o w → (end ≡ ends.Done) ⊎ (end ≡ ends.NoMemory)
+decided_cause set end o w text s p rest later done logs out b took n (inl i) = decided_item set end o w text s p rest later done logs out b took n i
+decided_cause set end o w text s p rest later done logs out b took n (inr t) = decided_text set end o w text s p rest later b.bytes took n t
 
 same_end : (end reached : RunEnd) → end ≡ reached → (reached ≡ ends.Done) ⊎ (reached ≡ ends.NoMemory) → (end ≡ ends.Done) ⊎ (end ≡ ends.NoMemory)
 same_end end reached e (inl d) = inl (e ∙ d)
@@ -142,8 +144,8 @@ by_last end reached before after none d (inl e) = same_end end reached e d
 by_last end reached before after none d (inr f) = absurd (none f.1)
 
 -- a sound script is done
-pub decided : (defs : List RecordDef) (end : RunEnd) (o w : Outside) (text : List ℕ) → Ends defs end o w → o.left ≡ Some text → IsSound defs text → NoFault o.reads w.reads o.writes w.writes
+pub decided : (set : Setting) (end : RunEnd) (o w : Outside) (text : List ℕ) → Ends set end o w → o.left ≡ Some text → IsSound set text → NoFault o.reads w.reads o.writes w.writes
     → (end ≡ ends.Done) ⊎ (end ≡ ends.NoMemory)
-decided defs end o w text e l s n =
+decided set end o w text e l s n =
     let took = rw l at e.begun.took in
-    by_last end e.reached o.writes w.writes n.1 (decided_cause defs e.reached o w text s e.past e.rest e.later e.done e.logs e.out e.begun took n e.cause) e.last
+    by_last end e.reached o.writes w.writes n.1 (decided_cause set e.reached o w text s e.past e.rest e.later e.done e.logs e.out e.begun took n e.cause) e.last

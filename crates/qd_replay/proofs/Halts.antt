@@ -1,7 +1,9 @@
 -- How a step ends a run, and how it goes on.
-use Rattle.std.proofs.Common.{ℕ, ◌≡◌, ◌⊎◌, inl, inr, Bool, true, false, Option, Some, None, Result, Ok, Err, List, [], ◌∷◌, ◌++◌, refl, sym, ◌∙◌, ap, append_assoc, map}
+use Rattle.std.proofs.Common.{ℕ, ◌≡◌, ◌⊎◌, inl, inr, Bool, true, false, Option, Some, None, Result, Ok, Err, List, [], ◌∷◌, ◌++◌, refl, sym, ◌∙◌, ap, append_assoc, map, subst}
+use Rattle.std.specs.Option.{option_map}
 use Rattle.std.proofs.lemmas.List.{append-nil}
 use Rattle.qd_buffer.specs.Filled.{Filled}
+use Rattle.qd_gate.specs.declared.machine.Entry.{Entry}
 use Rattle.qd_gate.specs.Logs.{entry}
 use Rattle.qd_outside.specs.Buffering.{Prints}
 use Rattle.qd_outside.specs.Writing.{IsCutShort}
@@ -11,48 +13,120 @@ use Rattle.qd_scheme.specs.declared.key.Record.{Record}
 use Rattle.qd_sub.specs.declared.op.Op.{Op}
 use Rattle.qd_sub.specs.declared.op.Reply.{Reply}
 use Rattle.qd_sub.specs.declared.op.Reply.TheVariants as replies
-use Rattle.qd_ticker.specs.Legal.{TickerEntry, no_terms, IsLegal}
-use Rattle.qd_ticker.specs.Stripes.{Stands}
+use Rattle.qd_ticker.specs.Legal as ticker
+use Rattle.qd_ticker.specs.Stripes as ticker_stripes
+use Rattle.qd_stream.specs.declared.item.StreamItem.{StreamItem}
+use Rattle.qd_stream.specs.Legal as stream
+use Rattle.qd_stream.specs.Stripes as stream_stripes
+use Rattle.qd_hist_rules.specs.declared.item.HistItem.{HistItem}
+use Rattle.qd_hist_rules.specs.declared.reply.HistoryReply.{HistoryReply}
+use Rattle.qd_hist_rules.specs.declared.reply.HistoryReply.TheVariants as events
+use Rattle.qd_hist_rules.specs.Legal as history
+use Rattle.qd_hist_stand.specs.Stripes as history_stripes
+use Rattle.qd_gate.specs.declared.machine.Terms.{Terms}
 use Rattle.qd_grammar.specs.declared.item.Collector.TheVariants as collectors
 use Rattle.qd_grammar.specs.declared.item.Item.{Item}
 use Rattle.qd_grammar.specs.declared.item.Item.TheVariants as items
 use Rattle.qd_grammar.specs.declared.item.Message.{Message}
 use Rattle.qd_items.specs.declared.ends.Limit.{Limit}
 use Rattle.qd_items.specs.declared.ends.RunEnd.{RunEnd}
-use Rattle.qd_items.specs.declared.ends.RunEnd.TheVariants.{Done, BadStep, Refused, WriteFault, NoMemory}
+use Rattle.qd_items.specs.declared.ends.RunEnd.TheVariants.{Done, BadStep, Refused, WriteFault, Spent, NoMemory}
 use Rattle.qd_replay.specs.declared.stripes.Stripes.{Stripes}
 use Rattle.qd_replay.specs.declared.stripes.Refusal.{Refusal}
 use Rattle.qd_replay.specs.declared.stripes.Refusal.TheVariants as refusals
-use Rattle.qd_replay.specs.declared.engine.Kind.TheVariants.{Body, Description, Control}
-use Rattle.qd_replay.specs.Calls.{Call, Act, empty_of, take_call}
-use Rattle.qd_replay.specs.Calls.Call.{Ticker}
+use Rattle.qd_replay.specs.declared.kind.Kind.TheVariants.{Body, Description, Control}
+use Rattle.qd_replay.specs.Calls.{Call, Answer, Act, empty_of, ticker_take, stream_take, history_take}
+use Rattle.qd_replay.specs.Calls.Call.{Ticker, Stream, History}
 use Rattle.qd_replay.specs.Calls.Act.{Ask, Say}
-use Rattle.qd_replay.specs.Replies.{line_of, reply_text, ticker_item}
-use Rattle.qd_replay.specs.Running.{Logs, Ran, Has, with_call, printed, asker, IsTurnedDown, IsRefused}
+use Rattle.qd_replay.specs.Replies.{ReplyItem, line_of, reply_text, ticker_item, stream_item, history_item}
+use Rattle.qd_replay.specs.Running.{Logs, Ran, Has, Stand, AreLegal, Tells, TellsEvent, IsGranted, IsRefusal, IsTurnedDown, IsRefused, logged, text_of, with_call}
 use Rattle.qd_replay.specs.Scripts.{Script, Group, no_group, group_with, kind_of, is_full, is_bad, calls_of, after, acts_with, own_acts, led_by, goes_on}
-use Rattle.qd_replay.specs.Steps.{Grants, HasItems, Makes, Sunk, IsShown, IsAt, IsHalted, Stops, Kept, with_group, without_group, ended_by, WentOn, Turns, Gives, Halts, Hears, ActsItself, is_write_fault, ToldBy}
+use Rattle.qd_replay.specs.Settings.{Caps, Setting}
+use Rattle.qd_replay.specs.Steps.{given_text, Grants, HasItems, GrantsEvent, HasEvents, Makes, Sunk, IsShown, IsAt, IsHalted, Stops, Kept, with_group, without_group, ended_by, WentOn, Turns, Gives, Halts, Hears, ActsItself, is_write_fault, ToldBy}
 
--- a call of the ticker, granted or refused
-pub asked : (op : Op Record Record) (reply : Reply Record) (result : Result (Unit {0}) Refusal) (s t : Stripes)
-    → ((log : List TickerEntry) (who : ℕ) → Stands s.ticker log → IsLegal no_terms log → Stands t.ticker (log ++ entry who op reply ∷ []) × IsLegal no_terms (log ++ entry who op reply ∷ []))
-    → Grants reply result → Makes (Ask (Ticker op) ∷ []) result s t
-asked op reply (Ok u) s t turn g = λ defs done out h.
-    let next = turn h.logs.ticker 0 h.stand h.legal in
+-- the ticker took a step, and nothing else changed
+pub ticker_turns : (op : Op Record Record) (reply : Reply Record) (s t : Stripes)
+    → ((log : List ticker.TickerEntry) (who : ℕ) → ticker_stripes.Stands s.ticker log → ticker.IsLegal ticker.no_terms log
+    → ticker_stripes.Stands t.ticker (log ++ entry who op reply ∷ []) × ticker.IsLegal ticker.no_terms (log ++ entry who op reply ∷ []))
+    → t.stream ≡ s.stream → t.history ≡ s.history → Turns (Ticker op) reply s t
+ticker_turns op reply s t turn same other = λ caps logs stand legal.
+    let next = turn logs.ticker 0 stand.ticker legal.ticker in (
+      record { ticker = next.0; stream = rw same stand.stream; history = rw other stand.history; bounds = rw (same, other) stand.bounds; base = rw other stand.base },
+      record { ticker = next.1; stream = legal.stream; history = legal.history },
+    )
+
+-- the stream took a step, and nothing else changed
+pub stream_turns : (op : stream.StreamOp) (reply : stream.StreamReply) (s t : Stripes)
+    → ((log : List stream.StreamEntry) (who : ℕ) → stream_stripes.Stands s.stream log → stream.IsLegal (stream.terms_of s.stream.boxes.cap) log
+    → stream_stripes.Stands t.stream (log ++ entry who op reply ∷ []) × stream.IsLegal (stream.terms_of s.stream.boxes.cap) (log ++ entry who op reply ∷ []))
+    → t.stream.boxes.cap ≡ s.stream.boxes.cap → t.ticker ≡ s.ticker → t.history ≡ s.history → Turns (Stream op) reply s t
+stream_turns op reply s t turn same first other = λ caps logs stand legal.
+    let cap : s.stream.boxes.cap ≡ caps.cap = ap (λ (c : Caps). c.cap) stand.bounds in
+    let next = turn logs.stream 0 stand.stream (rw cap legal.stream) in (
+      record { ticker = rw first stand.ticker; stream = next.0; history = rw other stand.history; bounds = rw (same, other) stand.bounds; base = rw other stand.base },
+      record { ticker = legal.ticker; stream = rw cap at next.1; history = legal.history },
+    )
+
+-- the history took a step, and nothing else changed
+pub history_turns : (op : history.HistoryOp) (reply : HistoryReply) (s t : Stripes)
+    → ((log : List history.HistoryEntry) (who : ℕ) → history_stripes.Stands s.history log → history.IsLegal (history_stripes.terms_in s.history) log
+    → history_stripes.Stands t.history (log ++ entry who op reply ∷ []) × history.IsLegal (history_stripes.terms_in s.history) (log ++ entry who op reply ∷ []))
+    → history_stripes.terms_in t.history ≡ history_stripes.terms_in s.history → t.ticker ≡ s.ticker → t.stream ≡ s.stream → Turns (History op) reply s t
+history_turns op reply s t turn same first second = λ caps logs stand legal.
+    let hcap : s.history.hcap ≡ caps.hcap = ap (λ (c : Caps). c.hcap) stand.bounds in
+    let still : t.history.hcap ≡ s.history.hcap = ap (λ (x : Terms). x.hcap) same in
+    let base : t.history.base ≡ s.history.base = ap (λ (x : Terms). x.base) same in
+    let next = turn logs.history 0 stand.history (rw (hcap, stand.base) legal.history) in (
+      record { ticker = rw first stand.ticker; stream = rw second stand.stream; history = next.0; bounds = rw (second, still) stand.bounds; base = base ∙ stand.base },
+      record { ticker = legal.ticker; stream = legal.stream; history = rw (hcap, stand.base) at next.1 },
+    )
+
+-- a call that was granted, of which nothing is printed
+granted_has : (call : Call) (reply : Answer call) (s t : Stripes) (set : Setting) (done : List Act) (out : List ℕ)
+    → Turns call reply s t → IsGranted call reply → text_of set.defs call reply ≡ [] → Has set done s out → Has set (Ask call ∷ done) t out
+granted_has call reply s t set done out turn g none h =
+    let next = turn set.caps h.logs h.stand h.legal in
     record {
-      logs = record { ticker = with_call h.logs.ticker op reply };
-      ran = (h.logs, reply, out, refl, rw g (sym (append-nil out)), rw g tt, h.ran);
+      logs = logged h.logs call reply;
+      ran = (h.logs, reply, out, refl, rw none (sym (append-nil out)), g, h.ran);
       stand = next.0;
       legal = next.1;
     }
-asked op reply (Err (refusals.TooMany limit)) s t turn g = λ defs done out h.
-    let next = turn h.logs.ticker 0 h.stand h.legal in
-    record { call = Ticker op; one = refl; logs = h.logs; ran = h.ran; legal = h.legal; refused = (reply, g, next.1) }
-asked op reply (Err refusals.NoMemory) s t turn g = tt
+
+-- a call that was refused
+refused_has : (call : Call) (reply : Answer call) (refusal : Refusal) (s t : Stripes) (set : Setting) (done : List Act) (out : List ℕ)
+    → Turns call reply s t → IsRefusal refusal call reply → Has set done s out → IsTurnedDown refusal (Ask call ∷ []) set done out
+refused_has call reply refusal s t set done out turn r h =
+    record { call = call; one = refl; logs = h.logs; ran = h.ran; legal = h.legal; refused = (reply, r, (turn set.caps h.logs h.stand h.legal).1) }
+
+-- a call of the ticker, granted or refused
+pub ticker_asked : (op : Op Record Record) (reply : Reply Record) (result : Result (Unit {0}) Refusal) (s t : Stripes)
+    → Turns (Ticker op) reply s t → Grants reply result → Makes (Ask (Ticker op) ∷ []) result s t
+ticker_asked op reply (Ok u) s t turn g = λ set done out h. granted_has (Ticker op) reply s t set done out turn (rw g tt) (rw g refl) h
+ticker_asked op reply (Err refusals.Spent) s t turn g = absurd g
+ticker_asked op reply (Err (refusals.TooMany limit)) s t turn g = λ set done out h. refused_has (Ticker op) reply (refusals.TooMany limit) s t set done out turn g h
+ticker_asked op reply (Err refusals.NoMemory) s t turn g = tt
+
+-- a call of the stream, granted or refused
+pub stream_asked : (op : stream.StreamOp) (reply : stream.StreamReply) (result : Result (Unit {0}) Refusal) (s t : Stripes)
+    → Turns (Stream op) reply s t → Grants reply result → Makes (Ask (Stream op) ∷ []) result s t
+stream_asked op reply (Ok u) s t turn g = λ set done out h. granted_has (Stream op) reply s t set done out turn (rw g tt) (rw g refl) h
+stream_asked op reply (Err refusals.Spent) s t turn g = absurd g
+stream_asked op reply (Err (refusals.TooMany limit)) s t turn g = λ set done out h. refused_has (Stream op) reply (refusals.TooMany limit) s t set done out turn g h
+stream_asked op reply (Err refusals.NoMemory) s t turn g = tt
+
+-- a call of the history, granted or refused
+pub history_asked : (op : history.HistoryOp) (reply : HistoryReply) (result : Result (Unit {0}) Refusal) (s t : Stripes)
+    → Turns (History op) reply s t → GrantsEvent reply result → Makes (Ask (History op) ∷ []) result s t
+history_asked op reply (Ok u) s t turn g = λ set done out h. granted_has (History op) reply s t set done out turn (rw g tt) (rw g refl) h
+history_asked op reply (Err (refusals.TooMany limit)) s t turn g = λ set done out h. refused_has (History op) reply (refusals.TooMany limit) s t set done out turn g h
+history_asked op reply (Err refusals.Spent) s t turn g = λ set done out h. refused_has (History op) reply refusals.Spent s t set done out turn g h
+history_asked op reply (Err refusals.NoMemory) s t turn g = tt
 
 -- none of what an item leads to is done
-pub halted : (end : RunEnd) (message : Option Message) (item : Item) (line : ℕ) (acts : List Act) (o : Sunk) (defs : List RecordDef) (done : List Act) (s : Stripes) (held : List ℕ) (w : Sunk)
-    → (at : IsAt o defs done s held w) → is_write_fault end ≡ false → Stops end message item line acts at.has.logs o.faults w.faults → IsHalted end message item line acts o defs done held w
-halted end message item line acts o defs done s held w at sound cause = record {
+pub halted : (end : RunEnd) (message : Option Message) (item : Item) (line : ℕ) (acts : List Act) (o : Sunk) (set : Setting) (done : List Act) (s : Stripes) (held : List ℕ) (w : Sunk)
+    → (at : IsAt o set done s held w) → is_write_fault end ≡ false → Stops end set.caps message item line acts at.has.logs o.faults w.faults → IsHalted end message item line acts o set done held w
+halted end message item line acts o set done s held w at sound cause = record {
   later = acts;
   now = [];
   acts_are = sym (append-nil acts);
@@ -65,26 +139,35 @@ halted end message item line acts o defs done s held w at sound cause = record {
 }
 
 -- the call of a group is refused
-pub halted_refused : (limit : Limit) (message : Option Message) (item : Item) (line : ℕ) (acts more calls : List Act) (o : Sunk) (defs : List RecordDef) (done : List Act) (s t : Stripes) (held : List ℕ) (w : Sunk)
-    → acts ≡ more ++ calls → IsAt o defs done s held w → Makes calls (Err (refusals.TooMany limit)) s t → IsHalted (Refused line limit) message item line acts o defs done held w
-halted_refused limit message item line acts more calls o defs done s t held w e at made =
-    let td = made defs done at.out at.has in
-    record {
-      later = acts;
-      now = [];
-      acts_are = sym (append-nil acts);
-      logs = td.logs;
-      out = at.out;
-      ran = td.ran;
-      legal = td.legal;
-      told = at.shown;
-      cause = (refl, td.call, more, e ∙ ap (λ (l : List Act). more ++ l) td.one, td.refused);
-    }
+halted_by : (end : RunEnd) (refusal : Refusal) (message : Option Message) (item : Item) (line : ℕ) (acts calls : List Act) (o : Sunk) (set : Setting) (done : List Act) (s : Stripes) (held : List ℕ) (w : Sunk)
+    → (at : IsAt o set done s held w) → (td : IsTurnedDown refusal calls set done at.out) → is_write_fault end ≡ false
+    → Stops end set.caps message item line acts td.logs o.faults w.faults → IsHalted end message item line acts o set done held w
+halted_by end refusal message item line acts calls o set done s held w at td sound cause = record {
+  later = acts;
+  now = [];
+  acts_are = sym (append-nil acts);
+  logs = td.logs;
+  out = at.out;
+  ran = td.ran;
+  legal = td.legal;
+  told = rw sound at.shown;
+  cause = cause;
+}
+
+pub halted_refused : (refusal : Refusal) (message : Option Message) (item : Item) (line : ℕ) (acts more calls : List Act) (o : Sunk) (set : Setting) (done : List Act) (s t : Stripes) (held : List ℕ) (w : Sunk)
+    → acts ≡ more ++ calls → IsAt o set done s held w → Makes calls (Err refusal) s t → IsHalted (ended_by line refusal) message item line acts o set done held w
+halted_refused (refusals.TooMany limit) message item line acts more calls o set done s t held w e at made =
+    let td = made set done at.out at.has in
+    halted_by (Refused line limit) (refusals.TooMany limit) message item line acts calls o set done s held w at td refl (refl, td.call, more, e ∙ ap (λ (l : List Act). more ++ l) td.one, td.refused)
+halted_refused refusals.Spent message item line acts more calls o set done s t held w e at made =
+    let td = made set done at.out at.has in
+    halted_by Spent refusals.Spent message item line acts calls o set done s held w at td refl (td.call, more, e ∙ ap (λ (l : List Act). more ++ l) td.one, td.refused)
+halted_refused refusals.NoMemory message item line acts more calls o set done s t held w e at made = halted NoMemory message item line acts o set done s held w at refl tt
 
 -- calls are made, and nothing is printed
-pub called : (calls : List Act) (o : Sunk) (defs : List RecordDef) (done : List Act) (s t : Stripes) (held : List ℕ) (w : Sunk)
-    → Makes calls (Ok tt) s t → IsAt o defs done s held w → IsAt o defs (calls ++ done) t held w
-called calls o defs done s t held w made at = record { out = at.out; has = made defs done at.out at.has; shown = at.shown }
+pub called : (calls : List Act) (o : Sunk) (set : Setting) (done : List Act) (s t : Stripes) (held : List ℕ) (w : Sunk)
+    → Makes calls (Ok tt) s t → IsAt o set done s held w → IsAt o set (calls ++ done) t held w
+called calls o set done s t held w made at = record { out = at.out; has = made set done at.out at.has; shown = at.shown }
 
 -- what was shown, with a text behind it
 pub shown_more : (o w v : Sunk) (out held text new : List ℕ) → IsShown o w out held → Prints true text held new w.written v.written w.faults v.faults → IsShown o v (out ++ text) new
@@ -106,25 +189,25 @@ shown_cut o w v out held text s c = record {
 }
 
 -- a line is printed
-pub said : (item : Item) (o : Sunk) (defs : List RecordDef) (done : List Act) (s : Stripes) (held new : List ℕ) (w v : Sunk)
-    → Prints true (line_of defs item) held new w.written v.written w.faults v.faults → IsAt o defs done s held w → IsAt o defs (Say item ∷ done) s new v
-said item o defs done s held new w v p at = record {
-  out = at.out ++ line_of defs item;
+pub said : (item : Item) (o : Sunk) (set : Setting) (done : List Act) (s : Stripes) (held new : List ℕ) (w v : Sunk)
+    → Prints true (line_of set.defs item) held new w.written v.written w.faults v.faults → IsAt o set done s held w → IsAt o set (Say item ∷ done) s new v
+said item o set done s held new w v p at = record {
+  out = at.out ++ line_of set.defs item;
   has = record { logs = at.has.logs; ran = (at.out, refl, at.has.ran); stand = at.has.stand; legal = at.has.legal };
-  shown = shown_more o w v at.out held (line_of defs item) new at.shown p;
+  shown = shown_more o w v at.out held (line_of set.defs item) new at.shown p;
 }
 
 -- a line is cut short
-pub said_short : (said : Item) (message : Option Message) (item : Item) (line : ℕ) (o : Sunk) (defs : List RecordDef) (done : List Act) (s : Stripes) (held new : List ℕ) (w v : Sunk)
-    → Prints false (line_of defs said) held new w.written v.written w.faults v.faults → IsAt o defs done s held w → IsHalted WriteFault message item line (Say said ∷ []) o defs done new v
-said_short said message item line o defs done s held new w v p at =
-    let cut = shown_cut o w v at.out held (line_of defs said) at.shown p in
+pub said_short : (said : Item) (message : Option Message) (item : Item) (line : ℕ) (o : Sunk) (set : Setting) (done : List Act) (s : Stripes) (held new : List ℕ) (w v : Sunk)
+    → Prints false (line_of set.defs said) held new w.written v.written w.faults v.faults → IsAt o set done s held w → IsHalted WriteFault message item line (Say said ∷ []) o set done new v
+said_short said message item line o set done s held new w v p at =
+    let cut = shown_cut o w v at.out held (line_of set.defs said) at.shown p in
     record {
       later = [];
       now = Say said ∷ [];
       acts_are = refl;
       logs = at.has.logs;
-      out = at.out ++ line_of defs said;
+      out = at.out ++ line_of set.defs said;
       ran = (at.out, refl, at.has.ran);
       legal = at.has.legal;
       told = cut;
@@ -132,10 +215,10 @@ said_short said message item line o defs done s held new w v p at =
     }
 
 -- the last line is printed
-pub ended : (message : Option Message) (line : ℕ) (o : Sunk) (defs : List RecordDef) (done : List Act) (s : Stripes) (held new : List ℕ) (w v : Sunk)
-    → Prints true (line_of defs items.End) held new w.written v.written w.faults v.faults → IsAt o defs done s held w → IsHalted Done message items.End line (Say items.End ∷ []) o defs done new v
-ended message line o defs done s held new w v p at =
-    let next = said items.End o defs done s held new w v p at in
+pub ended : (message : Option Message) (line : ℕ) (o : Sunk) (set : Setting) (done : List Act) (s : Stripes) (held new : List ℕ) (w v : Sunk)
+    → Prints true (line_of set.defs items.End) held new w.written v.written w.faults v.faults → IsAt o set done s held w → IsHalted Done message items.End line (Say items.End ∷ []) o set done new v
+ended message line o set done s held new w v p at =
+    let next = said items.End o set done s held new w v p at in
     record {
       later = [];
       now = Say items.End ∷ [];
@@ -148,51 +231,41 @@ ended message line o defs done s held new w v p at =
       cause = (refl, refl);
     }
 
--- what stands once a TAKE is answered and its text is known
-record IsTaken (n link : ℕ) (items : Filled Record) (defs : List RecordDef) (done : List Act) (t : Stripes) (out : List ℕ) : Type 0 where
-  has : Has defs (Ask (take_call link n) ∷ done) t (out ++ reply_text defs link collectors.Ticker (map ticker_item items.items))
-
-taken_has : (n link : ℕ) (filled : Filled Record) (defs : List RecordDef) (done : List Act) (s t : Stripes) (out : List ℕ)
-    → Turns (Op.Take link n (empty_of 4096)) (replies.Items filled) s t → Has defs done s out → IsTaken n link filled defs done t out
-taken_has n link filled defs done s t out turn h =
-    let next = turn h.logs.ticker 0 h.stand h.legal in
+-- what stands once a call is answered and its text is known
+taken_has : (call : Call) (text : List RecordDef → List ℕ) (set : Setting) (done : List Act) (s t : Stripes) (out : List ℕ)
+    → Gives call (Some text) s t → Has set done s out → Has set (Ask call ∷ done) t (out ++ text set.defs)
+taken_has call text set done s t out g h =
+    let next = g.3 set.caps h.logs h.stand h.legal in
     record {
-      has = record {
-        logs = record { ticker = with_call h.logs.ticker (Op.Take link n (empty_of 4096)) (replies.Items filled) };
-        ran = (h.logs, replies.Items filled, out, refl, refl, tt, h.ran);
-        stand = next.0;
-        legal = next.1;
-      };
+      logs = logged h.logs call g.0;
+      ran = (h.logs, g.0, out, refl, ap (λ (l : List ℕ). out ++ l) (sym (g.2 set.defs)), g.1, h.ran);
+      stand = next.0;
+      legal = next.1;
     }
 
 -- a TAKE is answered, and its reply printed
-pub taken : (n : ℕ) (link : ℕ) (filled : Filled Record) (o : Sunk) (defs : List RecordDef) (done : List Act) (s t : Stripes) (held new : List ℕ) (w v : Sunk)
-    → Turns (Op.Take link n (empty_of 4096)) (replies.Items filled) s t
-    → Prints true (reply_text defs link collectors.Ticker (map ticker_item filled.items)) held new w.written v.written w.faults v.faults
-    → IsAt o defs done s held w → IsAt o defs (Ask (take_call link n) ∷ done) t new v
-taken n link filled o defs done s t held new w v turn p at =
-    let text = reply_text defs link collectors.Ticker (map ticker_item filled.items) in
-    record {
-      out = at.out ++ text;
-      has = (taken_has n link filled defs done s t at.out turn at.has).has;
-      shown = shown_more o w v at.out held text new at.shown p;
-    }
+pub taken : (call : Call) (text : List RecordDef → List ℕ) (o : Sunk) (set : Setting) (done : List Act) (s t : Stripes) (held new : List ℕ) (w v : Sunk)
+    → Gives call (Some text) s t → Prints true (text set.defs) held new w.written v.written w.faults v.faults
+    → IsAt o set done s held w → IsAt o set (Ask call ∷ done) t new v
+taken call text o set done s t held new w v g p at = record {
+  out = at.out ++ text set.defs;
+  has = taken_has call text set done s t at.out g at.has;
+  shown = shown_more o w v at.out held (text set.defs) new at.shown p;
+}
 
 -- the reply to a TAKE is cut short
-pub taken_short : (n : ℕ) (link : ℕ) (filled : Filled Record) (message : Option Message) (item : Item) (line : ℕ) (o : Sunk) (defs : List RecordDef) (done : List Act) (s t : Stripes) (held new : List ℕ) (w v : Sunk)
-    → Turns (Op.Take link n (empty_of 4096)) (replies.Items filled) s t
-    → Prints false (reply_text defs link collectors.Ticker (map ticker_item filled.items)) held new w.written v.written w.faults v.faults
-    → IsAt o defs done s held w → IsHalted WriteFault message item line (Ask (take_call link n) ∷ []) o defs done new v
-taken_short n link filled message item line o defs done s t held new w v turn p at =
-    let text = reply_text defs link collectors.Ticker (map ticker_item filled.items) in
-    let has = (taken_has n link filled defs done s t at.out turn at.has).has in
-    let cut = shown_cut o w v at.out held text at.shown p in
+pub taken_short : (call : Call) (text : List RecordDef → List ℕ) (message : Option Message) (item : Item) (line : ℕ) (o : Sunk) (set : Setting) (done : List Act) (s t : Stripes) (held new : List ℕ) (w v : Sunk)
+    → Gives call (Some text) s t → Prints false (text set.defs) held new w.written v.written w.faults v.faults
+    → IsAt o set done s held w → IsHalted WriteFault message item line (Ask call ∷ []) o set done new v
+taken_short call text message item line o set done s t held new w v g p at =
+    let has = taken_has call text set done s t at.out g at.has in
+    let cut = shown_cut o w v at.out held (text set.defs) at.shown p in
     record {
       later = [];
-      now = Ask (take_call link n) ∷ [];
+      now = Ask call ∷ [];
       acts_are = refl;
       logs = has.logs;
-      out = at.out ++ text;
+      out = at.out ++ text set.defs;
       ran = has.ran;
       legal = has.legal;
       told = cut;
@@ -231,9 +304,9 @@ pub controlled : (item : Item) (line : ℕ) (defs : List RecordDef) (result : Op
 controlled item line defs None e f s t u w v k made acts = (
   acts.0 ∙ after_control item e.script k,
   acts.1,
-  λ o done at.
+  λ o caps done at.
       let calls = calls_of e.script.message e.script.link e.script.group in
-      let next = acts.2 o (calls ++ done) (called calls o defs done s t e.held w made at) in
+      let next = acts.2 o caps (calls ++ done) (called calls o (record { defs = defs; caps = caps }) done s t e.held w made at) in
       rw (control_acts item e.script k, append_assoc (own_acts e.script.link item) calls done) next,
 )
   where
@@ -242,10 +315,10 @@ controlled item line defs None e f s t u w v k made acts = (
 
     control_acts : (item : Item) (s : Script) → kind_of item ≡ Control → acts_with item s ≡ own_acts s.link item ++ calls_of s.message s.link s.group
     control_acts item s k = rw k refl
-controlled item line defs (Some end) e f s t u w v k made acts = λ o done at.
+controlled item line defs (Some end) e f s t u w v k made acts = λ o caps done at.
     let calls = calls_of e.script.message e.script.link e.script.group in
     let own = own_acts e.script.link item in
-    let h = acts o (calls ++ done) (called calls o defs done s t e.held w made at) in
+    let h = acts o caps (calls ++ done) (called calls o (record { defs = defs; caps = caps }) done s t e.held w made at) in
     let all : acts_with item e.script ≡ own ++ calls = rw k refl in
     record {
       later = h.later;
@@ -264,28 +337,37 @@ pub body_refused : (refusal : Refusal) (item : Item) (line : ℕ) (defs : List R
     → kind_of item ≡ Body → is_bad e.script.message item ≡ false → g ≡ with_group (group_with e.script.message item e.script.group) e → is_full g.script.group ≡ true
     → Makes (calls_of g.script.message g.script.link g.script.group) (Err refusal) s t → f.held ≡ g.held
     → Halts (ended_by line refusal) item line (acts_with item e.script) defs e s w f w
-body_refused (refusals.TooMany limit) item line defs e g f s t w k b eq full made held = λ o done at.
-    let m = rw eq at made in
+body_refused refusal item line defs e g f s t w k b eq full made held = λ o caps done at.
+    let m = subst (λ (x : Kept). Makes (calls_of x.script.message x.script.link x.script.group) (Err refusal) s t) eq made in
     let fills = rw eq at full in
-    rw (held, eq) (halted_refused limit e.script.message item line (acts_with item e.script) [] (calls_of e.script.message e.script.link (group_with e.script.message item e.script.group)) o defs done s t e.held w (body_acts item e.script k b fills) at m)
-body_refused refusals.NoMemory item line defs e g f s t w k b eq full made held = λ o done at.
-    rw (held, eq) (halted NoMemory e.script.message item line (acts_with item e.script) o defs done s e.held w at refl tt)
+    rw (held, eq) (halted_refused refusal e.script.message item line (acts_with item e.script) [] (calls_of e.script.message e.script.link (group_with e.script.message item e.script.group)) o (record { defs = defs; caps = caps }) done s t e.held w (body_acts item e.script k b fills) at m)
 
 -- the call of a group that a line ends is refused
 pub control_refused : (refusal : Refusal) (item : Item) (line : ℕ) (defs : List RecordDef) (e f : Kept) (s t : Stripes) (w : Sunk)
     → kind_of item ≡ Control → Makes (calls_of e.script.message e.script.link e.script.group) (Err refusal) s t → f.held ≡ e.held
     → Halts (ended_by line refusal) item line (acts_with item e.script) defs e s w f w
-control_refused (refusals.TooMany limit) item line defs e f s t w k made held = λ o done at.
+control_refused refusal item line defs e f s t w k made held = λ o caps done at.
     let all : acts_with item e.script ≡ own_acts e.script.link item ++ calls_of e.script.message e.script.link e.script.group = rw k refl in
-    rw held (halted_refused limit e.script.message item line (acts_with item e.script) (own_acts e.script.link item) (calls_of e.script.message e.script.link e.script.group) o defs done s t e.held w all at made)
-control_refused refusals.NoMemory item line defs e f s t w k made held = λ o done at.
-    rw held (halted NoMemory e.script.message item line (acts_with item e.script) o defs done s e.held w at refl tt)
+    rw held (halted_refused refusal e.script.message item line (acts_with item e.script) (own_acts e.script.link item) (calls_of e.script.message e.script.link e.script.group) o (record { defs = defs; caps = caps }) done s t e.held w all at made)
 
 -- a script without an open group
 pub closed_script : (s : Script) → s.group ≡ no_group → s ≡ record { message = s.message; link = s.link; group = no_group }
 closed_script s h = let x : s ≡ record { message = s.message; link = s.link; group = no_group } = ap (λ (g : Group). record { message = s.message; link = s.link; group = g }) h in x
 
--- a TAKE is answered with items
-pub gives : (link n : ℕ) (given : Option (Filled Record)) (out : Filled Record) (reply : Reply Record) (s t : Stripes) → out ≡ empty_of 4096 → Turns (Op.Take link n out) reply s t → HasItems reply given → Gives link n given s t
-gives link n (Some given) out reply s t e turn h = let x = rw (e, h) at turn in x
-gives link n None out reply s t e turn h = tt
+-- a TAKE of the ticker is answered with items
+pub ticker_gives : (link n : ℕ) (given : Option (Filled Record)) (out : Filled Record) (reply : Reply Record) (s t : Stripes)
+    → out ≡ empty_of 4096 → Turns (Ticker (Op.Take link n out)) reply s t → HasItems reply given → Gives (ticker_take link n) (option_map (given_text ticker_item collectors.Ticker link) given) s t
+ticker_gives link n (Some given) out reply s t e turn h = let x = rw (e, h) at turn in (replies.Items given, tt, λ defs. refl, x)
+ticker_gives link n None out reply s t e turn h = tt
+
+-- a TAKE of the stream is answered with items
+pub stream_gives : (link n : ℕ) (given : Option (Filled StreamItem)) (out : Filled StreamItem) (reply : stream.StreamReply) (s t : Stripes)
+    → out ≡ empty_of 4096 → Turns (Stream (Op.Take link n out)) reply s t → HasItems reply given → Gives (stream_take link n) (option_map (given_text stream_item collectors.Stream link) given) s t
+stream_gives link n (Some given) out reply s t e turn h = let x = rw (e, h) at turn in (replies.Items given, tt, λ defs. refl, x)
+stream_gives link n None out reply s t e turn h = tt
+
+-- a TAKE of the history is answered with items
+pub history_gives : (link n : ℕ) (given : Option (Filled HistItem)) (out : Filled HistItem) (reply : HistoryReply) (s t : Stripes)
+    → out ≡ empty_of 4096 → Turns (History (Op.Take link n out)) reply s t → HasEvents reply given → Gives (history_take link n) (option_map (given_text history_item collectors.History link) given) s t
+history_gives link n (Some given) out reply s t e turn h = let x = rw (e, h) at turn in (events.Items given, tt, λ defs. refl, x)
+history_gives link n None out reply s t e turn h = tt

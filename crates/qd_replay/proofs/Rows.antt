@@ -9,10 +9,11 @@ use Rattle.qd_sub.specs.declared.op.Op.TheVariants.{Add, Remove, Put}
 use Rattle.qd_grammar.specs.declared.item.Collector.TheVariants as collectors
 use Rattle.qd_grammar.specs.declared.item.Item.{Item}
 use Rattle.qd_grammar.specs.declared.item.Item.TheVariants as items
-use Rattle.qd_grammar.specs.declared.item.Message.TheVariants.{TickerData, TickerAdd, TickerRemove, StreamData, HistoryData}
+use Rattle.qd_grammar.specs.declared.item.Message.TheVariants.{TickerData, TickerAdd, TickerRemove, StreamData, StreamAdd, StreamLost, HistoryData}
 use Rattle.qd_items.specs.Judging.{Numbered}
-use Rattle.qd_replay.specs.Calls.{Act, full_of, take_call}
-use Rattle.qd_replay.specs.Calls.Call.{Ticker}
+use Rattle.qd_stream.specs.declared.item.StreamItem.TheVariants as stream_items
+use Rattle.qd_replay.specs.Calls.{Act, full_of, ticker_take, stream_take}
+use Rattle.qd_replay.specs.Calls.Call.{Ticker, Stream}
 use Rattle.qd_replay.specs.Calls.Act.{Ask, Say}
 use Rattle.qd_replay.specs.Scripts.{acts_of, script_of, is_bad, plain_sub}
 
@@ -34,7 +35,7 @@ two_quotes =
     ∷ items.Sub ibm ∷ items.Head TickerAdd ∷ items.Protocol ∷ []
 
 two_quotes-acts : acts_of (numbered 1 two_quotes) ≡
-    Say items.End ∷ Ask (take_call 0 10) ∷ Ask (Ticker (Put (full_of (quote 102 ∷ [])))) ∷ Ask (Ticker (Put (full_of (quote 100 ∷ []))))
+    Say items.End ∷ Ask (ticker_take 0 10) ∷ Ask (Ticker (Put (full_of (quote 102 ∷ [])))) ∷ Ask (Ticker (Put (full_of (quote 100 ∷ []))))
     ∷ Ask (Ticker (Add 0 (full_of (plain_sub ibm ∷ [])))) ∷ Say items.Protocol ∷ []
 two_quotes-acts = refl
 
@@ -60,3 +61,16 @@ take_4097 = refl
 -- a description and a line that is skipped end no group
 described : acts_of (numbered 1 (items.Time 5 ∷ items.Rec (quote 2) ∷ items.Describe 0 ∷ items.Rec (quote 1) ∷ items.Head TickerData ∷ [])) ≡ Ask (Ticker (Put (full_of (quote 1 ∷ quote 2 ∷ [])))) ∷ []
 described = refl
+
+-- records and counts of lost ones are put into the stream, each group in one call
+stream_groups : acts_of (numbered 1 (items.Take collectors.Stream 10 ∷ items.Lost ibm 5 ∷ items.Head StreamLost ∷ items.Rec (quote 1) ∷ items.Head StreamData ∷ items.Sub ibm ∷ items.Head StreamAdd ∷ [])) ≡
+    Ask (stream_take 0 10) ∷ Ask (Stream (Put (full_of (stream_items.Lost ibm 5 ∷ [])))) ∷ Ask (Stream (Put (full_of (stream_items.Rec (quote 1) ∷ []))))
+    ∷ Ask (Stream (Add 0 (full_of (plain_sub ibm ∷ [])))) ∷ []
+stream_groups = refl
+
+-- a loss under the head of records is no line of the stream, nor is a loss of none
+loss_of_data : is_bad (Some StreamData) (items.Lost ibm 5) ≡ true
+loss_of_data = refl
+
+loss_of_none : is_bad (Some StreamLost) (items.Lost ibm 0) ≡ true
+loss_of_none = refl

@@ -23,27 +23,49 @@ use Rattle.qd_outside.specs.Reading.{Took}
 use Rattle.qd_outside.specs.Writing.{IsWritten, IsCutShort}
 use Rattle.qd_outside.proofs.Streams.{Gained-none, Gained-more, Took-none}
 use Rattle.qd_scheme.specs.declared.defs.RecordDef.{RecordDef}
+use Rattle.qd_scheme.specs.declared.key.Event.{Event}
 use Rattle.qd_scheme.specs.declared.key.Key.{Key}
+use Rattle.qd_scheme.specs.declared.key.Record.{Record}
+use Rattle.qd_stream.specs.declared.item.StreamItem.{StreamItem}
+use Rattle.qd_stream.specs.declared.item.StreamItem.TheVariants as stream_items
 use Rattle.qd_sub.specs.declared.sub.Sub.{Sub}
-use Rattle.qd_replay.specs.declared.engine.Kind.{Kind}
-use Rattle.qd_replay.specs.declared.engine.Kind.TheVariants.{Body, Description, Control}
+use Rattle.qd_replay.specs.declared.kind.Kind.{Kind}
+use Rattle.qd_replay.specs.declared.kind.Kind.TheVariants.{Body, Description, Control}
 use Rattle.qd_replay.specs.declared.stripes.Stripes.{Stripes}
 use Rattle.qd_replay.specs.Calls.{Act}
 use Rattle.qd_replay.specs.Ends.{Outside, sunk, stop_at, IsCaused, IsEnded, IsRunning, Ends, IsFlushed, Finishes, LastBy}
-use Rattle.qd_replay.specs.Running.{Logs, Stand, no_logs}
-use Rattle.qd_replay.specs.Scripts.{Script, Group, start, size, plain_sub, no_group, is_full, is_adding, group_with, kind_of, after as after_item, after_kind, joined_by, led_by, script_of, acts_with, acts_of, goes_on, AreOpen}
+use Rattle.qd_replay.specs.Running.{Logs, Stand, caps_of, no_logs}
+use Rattle.qd_replay.specs.Scripts.{Script, Group, start, size, plain_sub, no_group, with_sub, with_key, with_record, with_item, with_event, is_full, is_adding, is_streaming, group_with, kind_of, after as after_item, after_kind, joined_by, led_by, script_of, acts_with, acts_of, goes_on, AreOpen}
+use Rattle.qd_replay.specs.Settings.{Caps, Setting}
 use Rattle.qd_replay.specs.Steps.{Kept as EngineKept, Sunk, IsShown, IsAt, Halts, Hears, Stops, is_write_fault, ToldBy}
 use Rattle.qd_replay.proofs.Halts.{shown_cut}
 
 -- a body line adds one line at most
-key_few : (adding : Bool) (s : Sub) (k : Key) (g : Group)
-    → size (cond adding (record { subs = g.subs ++ s ∷ []; keys = g.keys; records = g.records }) (record { subs = g.subs; keys = g.keys ++ k ∷ []; records = g.records })) ≤ size g + 1
-key_few true s k g = let n = length-append g.subs (s ∷ []) in omega (arith, n)
-key_few false s k g = let n = length-append g.keys (k ∷ []) in omega (arith, n)
+sub_few : (sub : Sub) (g : Group) → size (with_sub sub g) ≤ size g + 1
+sub_few sub g = let n = length-append g.subs (sub ∷ []) in omega (arith, n)
+
+key_few : (k : Key) (g : Group) → size (with_key k g) ≤ size g + 1
+key_few k g = let n = length-append g.keys (k ∷ []) in omega (arith, n)
+
+record_few : (r : Record) (g : Group) → size (with_record r g) ≤ size g + 1
+record_few r g = let n = length-append g.records (r ∷ []) in omega (arith, n)
+
+item_few : (i : StreamItem) (g : Group) → size (with_item i g) ≤ size g + 1
+item_few i g = let n = length-append g.items (i ∷ []) in omega (arith, n)
+
+event_few : (e : Event) (g : Group) → size (with_event e g) ≤ size g + 1
+event_few e g = let n = length-append g.events (e ∷ []) in omega (arith, n)
+
+either_few : (first : Bool) (g a b : Group) → size a ≤ size g + 1 → size b ≤ size g + 1 → size (cond first a b) ≤ size g + 1
+either_few true g a b m n = m
+either_few false g a b m n = n
 
 group_few : (message : Option Message) (item : Item) (g : Group) → size (group_with message item g) ≤ size g + 1
-group_few message (items.Rec r) g = let n = length-append g.records (r ∷ []) in omega (arith, n)
-group_few message (items.Sub k) g = key_few (is_adding message) (plain_sub k) k g
+group_few message (items.Rec r) g = either_few (is_streaming message) g (with_item (stream_items.Rec r) g) (with_record r g) (item_few (stream_items.Rec r) g) (record_few r g)
+group_few message (items.Lost k count) g = item_few (stream_items.Lost k count) g
+group_few message (items.Ev e) g = event_few e g
+group_few message (items.HistSub s) g = sub_few s g
+group_few message (items.Sub k) g = either_few (is_adding message) g (with_sub (plain_sub k) g) (with_key k g) (sub_few (plain_sub k) g) (key_few k g)
 group_few message _ g = omega arith
 
 called_few : (g : Group) (full : Bool) → nat_eq (size g) 4096 ≡ full → size g ≤ 4096 → size (cond full no_group g) < 4096
@@ -66,28 +88,28 @@ script_few [] = omega arith
 script_few (n ∷ before) = kind_few (kind_of n.item) n.item (script_of before) (script_few before)
 
 -- before anything
-pub opens : (defs : List RecordDef) (o : Outside) (k : Kept) (e : EngineKept) (s : Stripes) → k ≡ opening File → e ≡ record { script = start; held = [] } → Stand s no_logs → IsRunning defs o k e s o
-opens defs o k e s i b h = record {
+pub opens : (set : Setting) (o : Outside) (k : Kept) (e : EngineKept) (s : Stripes) → k ≡ opening File → e ≡ record { script = start; held = [] } → Stand set.caps s no_logs → IsRunning set o k e s o
+opens set o k e s i b h = record {
   past = nothing;
-  read = rw i (opening_read File defs o.left);
+  read = rw i (opening_read File set.defs o.left);
   mode = rw i refl;
   script = rw b refl;
   are_open = tt;
   at = record {
     out = [];
-    has = record { logs = no_logs; ran = (refl, refl); stand = h; legal = tt };
+    has = record { logs = no_logs; ran = (refl, refl); stand = h; legal = record { ticker = tt; stream = tt; history = tt } };
     shown = record { part = []; gained = Gained-none o.written; whole = rw b refl; same = refl };
   };
   same = refl;
 }
 
 -- a run ended at an item
-halted_at : (defs : List RecordDef) (o w v : Outside) (e f : EngineKept) (s : Stripes) (end : RunEnd) (last : Numbered) (before : List Numbered) (q : Past) (rest : List ℕ)
-    → e.script ≡ script_of before → AreOpen before → IsAt (sunk o) defs (acts_of before) s e.held (sunk w)
-    → IsTaken q rest → Took o.left v.left q.taken → items_of File defs q.lines ≡ last ∷ before → last.line ≡ length q.lines → stop_of File defs q.lines ≡ stop_at last → v.reads ≡ o.reads
-    → Halts end last.item last.line (acts_with last.item e.script) defs e s (sunk w) f (sunk v) → IsEnded defs end o f.held v
-halted_at defs o w v e f s end last before q rest script going at bytes took these number stop reads halts =
-    let h = halts (sunk o) (acts_of before) at in
+halted_at : (set : Setting) (o w v : Outside) (e f : EngineKept) (s : Stripes) (end : RunEnd) (last : Numbered) (before : List Numbered) (q : Past) (rest : List ℕ)
+    → e.script ≡ script_of before → AreOpen before → IsAt (sunk o) set (acts_of before) s e.held (sunk w)
+    → IsTaken q rest → Took o.left v.left q.taken → items_of File set.defs q.lines ≡ last ∷ before → last.line ≡ length q.lines → stop_of File set.defs q.lines ≡ stop_at last → v.reads ≡ o.reads
+    → Halts end last.item last.line (acts_with last.item e.script) set.defs e s (sunk w) f (sunk v) → IsEnded set end o f.held v
+halted_at set o w v e f s end last before q rest script going at bytes took these number stop reads halts =
+    let h = halts (sunk o) set.caps (acts_of before) at in
     let acts = rw script at h.acts_are in
     let cause = rw script at h.cause in
     record {
@@ -120,18 +142,18 @@ halted_at defs o w v e f s end last before q rest script going at bytes took the
     }
 
 -- the next item is heard, and the script goes on
-pub item_went : (defs : List RecordDef) (o : Outside) (k new : Kept) (e f : EngineKept) (s t : Stripes) (item : Item) (was now : Option (List ℕ)) (before after : ℕ) (written next : Option (List ℕ)) (writes faults : ℕ)
-    → (run : IsRunning defs o k e s (record { left = was; reads = before; written = written; writes = writes }))
+pub item_went : (set : Setting) (o : Outside) (k new : Kept) (e f : EngineKept) (s t : Stripes) (item : Item) (was now : Option (List ℕ)) (before after : ℕ) (written next : Option (List ℕ)) (writes faults : ℕ)
+    → (run : IsRunning set o k e s (record { left = was; reads = before; written = written; writes = writes }))
     → new.mode ≡ k.mode
-    → ((from : Option (List ℕ)) (p : Past) → IsRead defs from k p was → ComesNext defs from p (nexts.Item item) new now before after)
-    → Hears item new.lines defs None e s (record { written = written; faults = writes }) f t (record { written = next; faults = faults })
-    → IsRunning defs o new f t (record { left = now; reads = after; written = next; writes = faults })
-item_went defs o k new e f s t item was now before after written next writes faults run mode comes h =
+    → ((from : Option (List ℕ)) (p : Past) → IsRead set.defs from k p was → ComesNext set.defs from p (nexts.Item item) new now before after)
+    → Hears item new.lines set.defs None e s (record { written = written; faults = writes }) f t (record { written = next; faults = faults })
+    → IsRunning set o new f t (record { left = now; reads = after; written = next; writes = faults })
+item_went set o k new e f s t item was now before after written next writes faults run mode comes h =
     let n = comes o.left run.past run.read in
     let file : new.mode ≡ File = mode ∙ run.mode in
-    let these : items_of File defs n.0.lines ≡ record { line = new.lines; item = item } ∷ items_of File defs run.past.lines = rw file at n.3 in
+    let these : items_of File set.defs n.0.lines ≡ record { line = new.lines; item = item } ∷ items_of File set.defs run.past.lines = rw file at n.3 in
     let goes = rw run.script at h.1 in
-    let at = rw run.script at (h.2 (sunk o) (acts_of (items_of File defs run.past.lines)) run.at) in
+    let at = rw run.script at (h.2 (sunk o) set.caps (acts_of (items_of File set.defs run.past.lines)) run.at) in
     record {
       past = n.0;
       read = n.1;
@@ -143,20 +165,20 @@ item_went defs o k new e f s t item was now before after written next writes fau
     }
 
 -- the next item is heard, and ends the run
-pub item_halted : (defs : List RecordDef) (o : Outside) (k new : Kept) (e f : EngineKept) (s : Stripes) (item : Item) (end : RunEnd) (was now : Option (List ℕ)) (before after : ℕ) (written next : Option (List ℕ)) (writes faults : ℕ)
-    → (run : IsRunning defs o k e s (record { left = was; reads = before; written = written; writes = writes }))
+pub item_halted : (set : Setting) (o : Outside) (k new : Kept) (e f : EngineKept) (s : Stripes) (item : Item) (end : RunEnd) (was now : Option (List ℕ)) (before after : ℕ) (written next : Option (List ℕ)) (writes faults : ℕ)
+    → (run : IsRunning set o k e s (record { left = was; reads = before; written = written; writes = writes }))
     → new.mode ≡ k.mode
-    → ((from : Option (List ℕ)) (p : Past) → IsRead defs from k p was → ComesNext defs from p (nexts.Item item) new now before after)
-    → Halts end item new.lines (acts_with item e.script) defs e s (record { written = written; faults = writes }) f (record { written = next; faults = faults })
-    → IsEnded defs end o f.held (record { left = now; reads = after; written = next; writes = faults })
-item_halted defs o k new e f s item end was now before after written next writes faults run mode comes h =
+    → ((from : Option (List ℕ)) (p : Past) → IsRead set.defs from k p was → ComesNext set.defs from p (nexts.Item item) new now before after)
+    → Halts end item new.lines (acts_with item e.script) set.defs e s (record { written = written; faults = writes }) f (record { written = next; faults = faults })
+    → IsEnded set end o f.held (record { left = now; reads = after; written = next; writes = faults })
+item_halted set o k new e f s item end was now before after written next writes faults run mode comes h =
     let n = comes o.left run.past run.read in
     let file : new.mode ≡ File = mode ∙ run.mode in
-    let these : items_of File defs n.0.lines ≡ record { line = new.lines; item = item } ∷ items_of File defs run.past.lines = rw file at n.3 in
-    let none : stop_of File defs n.0.lines ≡ Open = rw file at n.1.stands.is_open in
+    let these : items_of File set.defs n.0.lines ≡ record { line = new.lines; item = item } ∷ items_of File set.defs run.past.lines = rw file at n.3 in
+    let none : stop_of File set.defs n.0.lines ≡ Open = rw file at n.1.stands.is_open in
     let stop : stop_at (record { line = new.lines; item = item }) ≡ Open = rw n.4 refl in
-    halted_at defs o (record { left = was; reads = before; written = written; writes = writes }) (record { left = now; reads = after; written = next; writes = faults }) e f s end
-    (record { line = new.lines; item = item }) (items_of File defs run.past.lines) n.0 new.left run.script run.are_open run.at n.1.stands.bytes n.1.took these n.1.stands.count (none ∙ sym stop) (n.5 ∙ run.same) h
+    halted_at set o (record { left = was; reads = before; written = written; writes = writes }) (record { left = now; reads = after; written = next; writes = faults }) e f s end
+    (record { line = new.lines; item = item }) (items_of File set.defs run.past.lines) n.0 new.left run.script run.are_open run.at n.1.stands.bytes n.1.took these n.1.stands.count (none ∙ sym stop) (n.5 ∙ run.same) h
 
 -- no end of a text is a fault of writing
 no_write_fault : (end : TextEnd) → is_write_fault (run_end end) ≡ false
@@ -169,23 +191,23 @@ no_write_fault texts.ReadFault = refl
 no_write_fault texts.NoMemory = refl
 
 -- the text ended before END
-early_end : (defs : List RecordDef) (o : Outside) (k new : Kept) (e : EngineKept) (s : Stripes) (end : TextEnd) (was now : Option (List ℕ)) (before after : ℕ) (written : Option (List ℕ)) (writes : ℕ)
-    → (run : IsRunning defs o k e s (record { left = was; reads = before; written = written; writes = writes }))
+early_end : (set : Setting) (o : Outside) (k new : Kept) (e : EngineKept) (s : Stripes) (end : TextEnd) (was now : Option (List ℕ)) (before after : ℕ) (written : Option (List ℕ)) (writes : ℕ)
+    → (run : IsRunning set o k e s (record { left = was; reads = before; written = written; writes = writes }))
     → new.mode ≡ k.mode
-    → ((from : Option (List ℕ)) (p : Past) → IsRead defs from k p was → ComesNext defs from p (nexts.Ended end) new now before after)
+    → ((from : Option (List ℕ)) (p : Past) → IsRead set.defs from k p was → ComesNext set.defs from p (nexts.Ended end) new now before after)
     → (end ≡ texts.End → ⊥) → ((line : ℕ) (ns : List Numbered) → last_items end line ns ≡ ns)
-    → IsEnded defs (run_end end) o e.held (record { left = now; reads = after; written = written; writes = writes })
-early_end defs o k new e s end was now before after written writes run mode comes early none =
+    → IsEnded set (run_end end) o e.held (record { left = now; reads = after; written = written; writes = writes })
+early_end set o k new e s end was now before after written writes run mode comes early none =
     let n = comes o.left run.past run.read in
     let file : new.mode ≡ File = mode ∙ run.mode in
     let here = rw file at n.2 in
-    let these : items_of File defs n.0.lines ≡ items_of File defs run.past.lines = (rw file at n.4) ∙ none (length n.0.lines) (items_of File defs run.past.lines) in
+    let these : items_of File set.defs n.0.lines ≡ items_of File set.defs run.past.lines = (rw file at n.4) ∙ none (length n.0.lines) (items_of File set.defs run.past.lines) in
     let cause = rw run.same at here.cause in
     record {
       past = n.0;
       rest = n.1;
       later = [];
-      done = acts_of (items_of File defs run.past.lines);
+      done = acts_of (items_of File set.defs run.past.lines);
       logs = run.at.has.logs;
       out = run.at.out;
       begun = record { bytes = here.bytes; took = here.took; acts = ap acts_of these; ran = run.at.has.ran; legal = run.at.has.legal };
@@ -194,44 +216,44 @@ early_end defs o k new e s end was now before after written writes run mode come
     }
 
 -- the text ended before END, and so did the run
-lasted_early : (defs : List RecordDef) (o : Outside) (k new : Kept) (e f : EngineKept) (s : Stripes) (end : TextEnd) (result : RunEnd) (was now : Option (List ℕ)) (before after : ℕ) (written next : Option (List ℕ)) (writes faults : ℕ)
-    → (run : IsRunning defs o k e s (record { left = was; reads = before; written = written; writes = writes }))
+lasted_early : (set : Setting) (o : Outside) (k new : Kept) (e f : EngineKept) (s : Stripes) (end : TextEnd) (result : RunEnd) (was now : Option (List ℕ)) (before after : ℕ) (written next : Option (List ℕ)) (writes faults : ℕ)
+    → (run : IsRunning set o k e s (record { left = was; reads = before; written = written; writes = writes }))
     → new.mode ≡ k.mode
-    → ((from : Option (List ℕ)) (p : Past) → IsRead defs from k p was → ComesNext defs from p (nexts.Ended end) new now before after)
+    → ((from : Option (List ℕ)) (p : Past) → IsRead set.defs from k p was → ComesNext set.defs from p (nexts.Ended end) new now before after)
     → (end ≡ texts.End → ⊥) → ((line : ℕ) (ns : List Numbered) → last_items end line ns ≡ ns)
     → (result ≡ run_end end) × (f.held ≡ e.held) × (◌≡◌ {A = Sunk} (record { written = next; faults = faults }) (record { written = written; faults = writes }))
-    → IsEnded defs result o f.held (record { left = now; reads = after; written = next; writes = faults })
-lasted_early defs o k new e f s end result was now before after written next writes faults run mode comes early none l =
+    → IsEnded set result o f.held (record { left = now; reads = after; written = next; writes = faults })
+lasted_early set o k new e f s end result was now before after written next writes faults run mode comes early none l =
     let same : Sunk = record { written = written; faults = writes } in
     let there : next ≡ written = ap (λ (x : Sunk). x.written) l.2 in
     let count : faults ≡ writes = ap (λ (x : Sunk). x.faults) l.2 in
-    rw (l.0, l.1, there, count) (early_end defs o k new e s end was now before after written writes run mode comes early none)
+    rw (l.0, l.1, there, count) (early_end set o k new e s end was now before after written writes run mode comes early none)
 
 -- the text ended, and so does the run
-pub lasted : (defs : List RecordDef) (o : Outside) (k new : Kept) (e f : EngineKept) (s : Stripes) (end : TextEnd) (result : RunEnd) (was now : Option (List ℕ)) (before after : ℕ) (written next : Option (List ℕ)) (writes faults : ℕ)
-    → (run : IsRunning defs o k e s (record { left = was; reads = before; written = written; writes = writes }))
+pub lasted : (set : Setting) (o : Outside) (k new : Kept) (e f : EngineKept) (s : Stripes) (end : TextEnd) (result : RunEnd) (was now : Option (List ℕ)) (before after : ℕ) (written next : Option (List ℕ)) (writes faults : ℕ)
+    → (run : IsRunning set o k e s (record { left = was; reads = before; written = written; writes = writes }))
     → new.mode ≡ k.mode
-    → ((from : Option (List ℕ)) (p : Past) → IsRead defs from k p was → ComesNext defs from p (nexts.Ended end) new now before after)
-    → LastBy end new.lines defs result e s (record { written = written; faults = writes }) f (record { written = next; faults = faults })
-    → IsEnded defs result o f.held (record { left = now; reads = after; written = next; writes = faults })
-lasted defs o k new e f s texts.End result was now before after written next writes faults run mode comes h =
+    → ((from : Option (List ℕ)) (p : Past) → IsRead set.defs from k p was → ComesNext set.defs from p (nexts.Ended end) new now before after)
+    → LastBy end new.lines set.defs result e s (record { written = written; faults = writes }) f (record { written = next; faults = faults })
+    → IsEnded set result o f.held (record { left = now; reads = after; written = next; writes = faults })
+lasted set o k new e f s texts.End result was now before after written next writes faults run mode comes h =
     let n = comes o.left run.past run.read in
     let file : new.mode ≡ File = mode ∙ run.mode in
     let here = rw file at n.2 in
     let number : new.lines ≡ length n.0.lines = n.5 in
-    let these : items_of File defs n.0.lines ≡ record { line = length n.0.lines; item = items.End } ∷ items_of File defs run.past.lines = rw file at n.4 in
-    halted_at defs o (record { left = was; reads = before; written = written; writes = writes }) (record { left = now; reads = after; written = next; writes = faults }) e f s result
-    (record { line = new.lines; item = items.End }) (items_of File defs run.past.lines) n.0 n.1 run.script run.are_open run.at here.bytes here.took (rw number these) number (rw number here.cause.0) (here.cause.1 ∙ run.same) h
-lasted defs o k new e f s (texts.CutOff x) result was now before after written next writes faults run mode comes h = lasted_early defs o k new e f s (texts.CutOff x) result was now before after written next writes faults run mode comes (λ q. cc) (λ line ns. refl) h
-lasted defs o k new e f s (texts.Bad x) result was now before after written next writes faults run mode comes h = lasted_early defs o k new e f s (texts.Bad x) result was now before after written next writes faults run mode comes (λ q. cc) (λ line ns. refl) h
-lasted defs o k new e f s (texts.LineTooLong x) result was now before after written next writes faults run mode comes h = lasted_early defs o k new e f s (texts.LineTooLong x) result was now before after written next writes faults run mode comes (λ q. cc) (λ line ns. refl) h
-lasted defs o k new e f s texts.TooMuch result was now before after written next writes faults run mode comes h = lasted_early defs o k new e f s texts.TooMuch result was now before after written next writes faults run mode comes (λ q. cc) (λ line ns. refl) h
-lasted defs o k new e f s texts.ReadFault result was now before after written next writes faults run mode comes h = lasted_early defs o k new e f s texts.ReadFault result was now before after written next writes faults run mode comes (λ q. cc) (λ line ns. refl) h
-lasted defs o k new e f s texts.NoMemory result was now before after written next writes faults run mode comes h = lasted_early defs o k new e f s texts.NoMemory result was now before after written next writes faults run mode comes (λ q. cc) (λ line ns. refl) h
+    let these : items_of File set.defs n.0.lines ≡ record { line = length n.0.lines; item = items.End } ∷ items_of File set.defs run.past.lines = rw file at n.4 in
+    halted_at set o (record { left = was; reads = before; written = written; writes = writes }) (record { left = now; reads = after; written = next; writes = faults }) e f s result
+    (record { line = new.lines; item = items.End }) (items_of File set.defs run.past.lines) n.0 n.1 run.script run.are_open run.at here.bytes here.took (rw number these) number (rw number here.cause.0) (here.cause.1 ∙ run.same) h
+lasted set o k new e f s (texts.CutOff x) result was now before after written next writes faults run mode comes h = lasted_early set o k new e f s (texts.CutOff x) result was now before after written next writes faults run mode comes (λ q. cc) (λ line ns. refl) h
+lasted set o k new e f s (texts.Bad x) result was now before after written next writes faults run mode comes h = lasted_early set o k new e f s (texts.Bad x) result was now before after written next writes faults run mode comes (λ q. cc) (λ line ns. refl) h
+lasted set o k new e f s (texts.LineTooLong x) result was now before after written next writes faults run mode comes h = lasted_early set o k new e f s (texts.LineTooLong x) result was now before after written next writes faults run mode comes (λ q. cc) (λ line ns. refl) h
+lasted set o k new e f s texts.TooMuch result was now before after written next writes faults run mode comes h = lasted_early set o k new e f s texts.TooMuch result was now before after written next writes faults run mode comes (λ q. cc) (λ line ns. refl) h
+lasted set o k new e f s texts.ReadFault result was now before after written next writes faults run mode comes h = lasted_early set o k new e f s texts.ReadFault result was now before after written next writes faults run mode comes (λ q. cc) (λ line ns. refl) h
+lasted set o k new e f s texts.NoMemory result was now before after written next writes faults run mode comes h = lasted_early set o k new e f s texts.NoMemory result was now before after written next writes faults run mode comes (λ q. cc) (λ line ns. refl) h
 
 -- nothing was begun for want of memory
-pub not_begun : (defs : List RecordDef) (o : Outside) → Ends defs ends.NoMemory o o
-not_begun defs o = record {
+pub not_begun : (set : Setting) (o : Outside) → Ends set ends.NoMemory o o
+not_begun set o = record {
   reached = ends.NoMemory;
   past = nothing;
   rest = [];
@@ -239,7 +261,7 @@ not_begun defs o = record {
   done = [];
   logs = no_logs;
   out = [];
-  begun = record { bytes = (opening_read File defs o.left).stands.bytes; took = Took-none o.left; acts = refl; ran = (refl, refl); legal = tt };
+  begun = record { bytes = (opening_read File set.defs o.left).stands.bytes; took = Took-none o.left; acts = refl; ran = (refl, refl); legal = record { ticker = tt; stream = tt; history = tt } };
   cause = inr (record { text_end = texts.NoMemory; end_is = refl; early = λ q. cc; are_open = tt; all_done = refl; cause = (refl, refl) });
   last = inl refl;
   wrote = inl (record { gained = Gained-none o.written; same = refl });
@@ -259,27 +281,27 @@ is_fault ends.Spent h = absurd (cc)
 is_fault ends.NoMemory h = absurd (cc)
 
 -- the cause of an end that is no fault of writing does not speak of the writes
-other_stop : (end : RunEnd) (message : Option Message) (item : Item) (line : ℕ) (later : List Act) (logs : Logs) (before after now : ℕ)
-    → is_write_fault end ≡ false → Stops end message item line later logs before after → Stops end message item line later logs before now
-other_stop ends.WriteFault message item line later logs before after now h c = absurd (cc)
-other_stop ends.Done message item line later logs before after now h c = c
-other_stop (ends.CutOff n) message item line later logs before after now h c = c
-other_stop (ends.Bad b) message item line later logs before after now h c = c
-other_stop (ends.LineTooLong n) message item line later logs before after now h c = c
-other_stop (ends.BadStep n) message item line later logs before after now h c = c
-other_stop (ends.Refused n limit) message item line later logs before after now h c = c
-other_stop ends.TooMuch message item line later logs before after now h c = c
-other_stop ends.ReadFault message item line later logs before after now h c = c
-other_stop ends.Spent message item line later logs before after now h c = c
-other_stop ends.NoMemory message item line later logs before after now h c = c
+other_stop : (end : RunEnd) (caps : Caps) (message : Option Message) (item : Item) (line : ℕ) (later : List Act) (logs : Logs) (before after now : ℕ)
+    → is_write_fault end ≡ false → Stops end caps message item line later logs before after → Stops end caps message item line later logs before now
+other_stop ends.WriteFault caps message item line later logs before after now h c = absurd (cc)
+other_stop ends.Done caps message item line later logs before after now h c = c
+other_stop (ends.CutOff n) caps message item line later logs before after now h c = c
+other_stop (ends.Bad b) caps message item line later logs before after now h c = c
+other_stop (ends.LineTooLong n) caps message item line later logs before after now h c = c
+other_stop (ends.BadStep n) caps message item line later logs before after now h c = c
+other_stop (ends.Refused n limit) caps message item line later logs before after now h c = c
+other_stop ends.TooMuch caps message item line later logs before after now h c = c
+other_stop ends.ReadFault caps message item line later logs before after now h c = c
+other_stop ends.Spent caps message item line later logs before after now h c = c
+other_stop ends.NoMemory caps message item line later logs before after now h c = c
 
 -- what the outside tells once more was written
 abbrev pub later_on : Outside → Option (List ℕ) → ℕ → Outside
 later_on w now after = record { left = w.left; reads = w.reads; written = now; writes = after }
 
-other_cause : (end : RunEnd) (defs : List RecordDef) (p : Past) (rest : List ℕ) (later done : List Act) (logs : Logs) (o w : Outside) (now : Option (List ℕ)) (after : ℕ)
-    → is_write_fault end ≡ false → IsCaused end defs p rest later done logs o w → IsCaused end defs p rest later done logs o (later_on w now after)
-other_cause end defs p rest later done logs o w now after h (inl i) = inl (record {
+other_cause : (end : RunEnd) (set : Setting) (p : Past) (rest : List ℕ) (later done : List Act) (logs : Logs) (o w : Outside) (now : Option (List ℕ)) (after : ℕ)
+    → is_write_fault end ≡ false → IsCaused end set p rest later done logs o w → IsCaused end set p rest later done logs o (later_on w now after)
+other_cause end set p rest later done logs o w now after h (inl i) = inl (record {
   last = i.last;
   before = i.before;
   now = i.now;
@@ -288,10 +310,10 @@ other_cause end defs p rest later done logs o w now after h (inl i) = inl (recor
   are_open = i.are_open;
   done_is = i.done_is;
   stop_is = i.stop_is;
-  cause = other_stop end (script_of i.before).message i.last.item i.last.line later logs o.writes w.writes after h i.cause;
+  cause = other_stop end set.caps (script_of i.before).message i.last.item i.last.line later logs o.writes w.writes after h i.cause;
   reads = i.reads;
 })
-other_cause end defs p rest later done logs o w now after h (inr t) = inr (record { text_end = t.text_end; end_is = t.end_is; early = t.early; are_open = t.are_open; all_done = t.all_done; cause = t.cause })
+other_cause end set p rest later done logs o w now after h (inr t) = inr (record { text_end = t.text_end; end_is = t.end_is; early = t.early; are_open = t.are_open; all_done = t.all_done; cause = t.cause })
 
 -- all that was shown is written
 all_written : (o w : Sunk) (out held : List ℕ) (now : Option (List ℕ)) (after : ℕ) → IsShown o w out held → IsWritten held w.written now w.faults after → IsWritten out o.written now o.faults after
@@ -311,13 +333,13 @@ told_shown : (end : RunEnd) (o w : Sunk) (out held : List ℕ) → is_write_faul
 told_shown end o w out held h t = let x = rw h at t in x
 
 -- the run ended, and what was held back is written
-pub record IsOver (defs : List RecordDef) (last : RunEnd) (o w : Outside) (flushed : Bool) : Type 0 where
-  pub ends : Ends defs last o w
+pub record IsOver (set : Setting) (last : RunEnd) (o w : Outside) (flushed : Bool) : Type 0 where
+  pub ends : Ends set last o w
   pub is_flushed : IsFlushed last flushed
 
-over_fault : (defs : List RecordDef) (end last : RunEnd) (o w : Outside) (held : List ℕ) (now : Option (List ℕ)) (flushed : Bool) (after : ℕ)
-    → IsEnded defs end o held w → is_write_fault end ≡ true → last ≡ end → now ≡ w.written → after ≡ w.writes → IsOver defs last o (later_on w now after) flushed
-over_fault defs end last o w held now flushed after e f l n a =
+over_fault : (set : Setting) (end last : RunEnd) (o w : Outside) (held : List ℕ) (now : Option (List ℕ)) (flushed : Bool) (after : ℕ)
+    → IsEnded set end o held w → is_write_fault end ≡ true → last ≡ end → now ≡ w.written → after ≡ w.writes → IsOver set last o (later_on w now after) flushed
+over_fault set end last o w held now flushed after e f l n a =
     let fault : last ≡ ends.WriteFault = l ∙ is_fault end f in
     let cut = told_cut end (sunk o) (sunk w) e.out held f e.told in
     rw (n, a) (record {
@@ -337,9 +359,9 @@ over_fault defs end last o w held now flushed after e f l n a =
       is_flushed = inr (inl fault);
     })
 
-over_drained : (defs : List RecordDef) (end last : RunEnd) (o w : Outside) (held : List ℕ) (now : Option (List ℕ)) (flushed : Bool) (after : ℕ)
-    → IsEnded defs end o held w → is_write_fault end ≡ false → last ≡ end → flushed ≡ true → IsWritten held w.written now w.writes after → IsOver defs last o (later_on w now after) flushed
-over_drained defs end last o w held now flushed after e f l fl d = record {
+over_drained : (set : Setting) (end last : RunEnd) (o w : Outside) (held : List ℕ) (now : Option (List ℕ)) (flushed : Bool) (after : ℕ)
+    → IsEnded set end o held w → is_write_fault end ≡ false → last ≡ end → flushed ≡ true → IsWritten held w.written now w.writes after → IsOver set last o (later_on w now after) flushed
+over_drained set end last o w held now flushed after e f l fl d = record {
   ends = record {
     reached = end;
     past = e.past;
@@ -349,16 +371,16 @@ over_drained defs end last o w held now flushed after e f l fl d = record {
     logs = e.logs;
     out = e.out;
     begun = record { bytes = e.begun.bytes; took = e.begun.took; acts = e.begun.acts; ran = e.begun.ran; legal = e.begun.legal };
-    cause = other_cause end defs e.past e.rest e.later e.done e.logs o w now after f e.cause;
+    cause = other_cause end set e.past e.rest e.later e.done e.logs o w now after f e.cause;
     last = inl l;
     wrote = inl (all_written (sunk o) (sunk w) e.out held now after (told_shown end (sunk o) (sunk w) e.out held f e.told) d);
   };
   is_flushed = inl fl;
 }
 
-over_cut : (defs : List RecordDef) (end last : RunEnd) (o w : Outside) (held : List ℕ) (now : Option (List ℕ)) (flushed : Bool) (after : ℕ)
-    → IsEnded defs end o held w → is_write_fault end ≡ false → last ≡ ends.WriteFault → IsCutShort held w.written now w.writes after → IsOver defs last o (later_on w now after) flushed
-over_cut defs end last o w held now flushed after e f l c =
+over_cut : (set : Setting) (end last : RunEnd) (o w : Outside) (held : List ℕ) (now : Option (List ℕ)) (flushed : Bool) (after : ℕ)
+    → IsEnded set end o held w → is_write_fault end ≡ false → last ≡ ends.WriteFault → IsCutShort held w.written now w.writes after → IsOver set last o (later_on w now after) flushed
+over_cut set end last o w held now flushed after e f l c =
     let cut = all_cut (sunk o) (sunk w) e.out held now after (told_shown end (sunk o) (sunk w) e.out held f e.told) c in
     record {
       ends = record {
@@ -370,15 +392,20 @@ over_cut defs end last o w held now flushed after e f l c =
         logs = e.logs;
         out = e.out;
         begun = record { bytes = e.begun.bytes; took = e.begun.took; acts = e.begun.acts; ran = e.begun.ran; legal = e.begun.legal };
-        cause = other_cause end defs e.past e.rest e.later e.done e.logs o w now after f e.cause;
+        cause = other_cause end set e.past e.rest e.later e.done e.logs o w now after f e.cause;
         last = inr (l, cut.rose);
         wrote = inr (l, cut);
       };
       is_flushed = inr (inl l);
     }
 
-pub over : (defs : List RecordDef) (end last : RunEnd) (o w : Outside) (held : List ℕ) (now : Option (List ℕ)) (flushed : Bool) (after : ℕ)
-    → IsEnded defs end o held w → Finishes end last held w.written now flushed w.writes after → IsOver defs last o (later_on w now after) flushed
-over defs end last o w held now flushed after e (inl f) = over_fault defs end last o w held now flushed after e f.0 f.1 f.2 f.3
-over defs end last o w held now flushed after e (inr (inl f)) = over_drained defs end last o w held now flushed after e f.0 f.1 f.2 f.3
-over defs end last o w held now flushed after e (inr (inr f)) = over_cut defs end last o w held now flushed after e f.0 f.1 f.2
+pub over : (set : Setting) (end last : RunEnd) (o w : Outside) (held : List ℕ) (now : Option (List ℕ)) (flushed : Bool) (after : ℕ)
+    → IsEnded set end o held w → Finishes end last held w.written now flushed w.writes after → IsOver set last o (later_on w now after) flushed
+over set end last o w held now flushed after e (inl f) = over_fault set end last o w held now flushed after e f.0 f.1 f.2 f.3
+over set end last o w held now flushed after e (inr (inl f)) = over_drained set end last o w held now flushed after e f.0 f.1 f.2 f.3
+over set end last o w held now flushed after e (inr (inr f)) = over_cut set end last o w held now flushed after e f.0 f.1 f.2
+
+-- the same, where the bounds are known by another name
+pub over_with : (defs : List RecordDef) (caps bounds : Caps) (end last : RunEnd) (o w : Outside) (held : List ℕ) (now : Option (List ℕ)) (flushed : Bool) (after : ℕ)
+    → caps ≡ bounds → IsEnded (record { defs = defs; caps = caps }) end o held w → Finishes end last held w.written now flushed w.writes after → IsOver (record { defs = defs; caps = bounds }) last o (later_on w now after) flushed
+over_with defs caps bounds end last o w held now flushed after same e f = over (record { defs = defs; caps = bounds }) end last o w held now flushed after (rw same at e) f

@@ -20,6 +20,7 @@ use Rattle.qd_replay.specs.declared.stripes.Stripes.{Stripes}
 use Rattle.qd_replay.specs.Calls.{Act}
 use Rattle.qd_replay.specs.Running.{Logs, Ran, AreLegal}
 use Rattle.qd_replay.specs.Scripts.{Script, script_of, acts_with, acts_of, AreOpen}
+use Rattle.qd_replay.specs.Settings.{Caps, Setting}
 use Rattle.qd_replay.specs.Steps.{Kept as EngineKept, Sunk, IsAt, Halts, ToldBy, is_write_fault, Stops}
 
 -- what the outside tells: the bytes left, the count of read faults, the bytes written, the count of write faults
@@ -37,7 +38,7 @@ abbrev pub stop_at : Numbered → Stop
 stop_at n = if is_end n.item then AtEnd n.line else Open
 
 -- the last line ended the run: the script was open before it, of all that the lines lead to what is not done is `later`, all of it of this line
-pub record IsOfItem (end : RunEnd) (items : List Numbered) (count : ℕ) (stop : Stop) (later done : List Act) (logs : Logs) (o w : Outside) : Type 0 where
+pub record IsOfItem (end : RunEnd) (caps : Caps) (items : List Numbered) (count : ℕ) (stop : Stop) (later done : List Act) (logs : Logs) (o w : Outside) : Type 0 where
   pub last : Numbered
   pub before : List Numbered
   pub now : List Act
@@ -46,7 +47,7 @@ pub record IsOfItem (end : RunEnd) (items : List Numbered) (count : ℕ) (stop :
   pub are_open : AreOpen before
   pub done_is : done ≡ now ++ acts_of before
   pub stop_is : stop ≡ stop_at last
-  pub cause : Stops end (script_of before).message last.item last.line later logs o.writes w.writes
+  pub cause : Stops end caps (script_of before).message last.item last.line later logs o.writes w.writes
   pub reads : w.reads ≡ o.reads
 
 -- the text ended before `==END`, and all that its lines lead to was done
@@ -59,29 +60,29 @@ pub record IsOfText (end : RunEnd) (items : List Numbered) (count : ℕ) (stop :
   pub cause : Cause text_end stop count rest taken w.left o.reads w.reads
 
 -- the cause of an end, by the bytes taken, their lines, and what these lead to
-abbrev pub IsCaused : RunEnd → List RecordDef → Past → List ℕ → List Act → List Act → Logs → Outside → Outside → Type 0
-IsCaused end defs p rest later done logs o w =
-    IsOfItem end (items_of File defs p.lines) (length p.lines) (stop_of File defs p.lines) later done logs o w
-    ⊎ IsOfText end (items_of File defs p.lines) (length p.lines) (stop_of File defs p.lines) later rest (length p.taken) o w
+abbrev pub IsCaused : RunEnd → Setting → Past → List ℕ → List Act → List Act → Logs → Outside → Outside → Type 0
+IsCaused end set p rest later done logs o w =
+    IsOfItem end set.caps (items_of File set.defs p.lines) (length p.lines) (stop_of File set.defs p.lines) later done logs o w
+    ⊎ IsOfText end (items_of File set.defs p.lines) (length p.lines) (stop_of File set.defs p.lines) later rest (length p.taken) o w
 
 -- what a run did until it ended: the bytes taken are lines and a rest; of what the lines lead to, the acts `done` were done, once and in order, and the acts `later` were not
-pub record IsBegun (defs : List RecordDef) (p : Past) (rest : List ℕ) (later done : List Act) (logs : Logs) (out : List ℕ) (o w : Outside) : Type 0 where
+pub record IsBegun (set : Setting) (p : Past) (rest : List ℕ) (later done : List Act) (logs : Logs) (out : List ℕ) (o w : Outside) : Type 0 where
   pub bytes : IsTaken p rest
   pub took : Took o.left w.left p.taken
-  pub acts : acts_of (items_of File defs p.lines) ≡ later ++ done
-  pub ran : Ran defs done logs out
-  pub legal : AreLegal logs
+  pub acts : acts_of (items_of File set.defs p.lines) ≡ later ++ done
+  pub ran : Ran set.defs done logs out
+  pub legal : AreLegal set.caps logs
 
 -- a run ended, where this text is held back
-pub record IsEnded (defs : List RecordDef) (end : RunEnd) (o : Outside) (held : List ℕ) (w : Outside) : Type 0 where
+pub record IsEnded (set : Setting) (end : RunEnd) (o : Outside) (held : List ℕ) (w : Outside) : Type 0 where
   pub past : Past
   pub rest : List ℕ
   pub later : List Act
   pub done : List Act
   pub logs : Logs
   pub out : List ℕ
-  pub begun : IsBegun defs past rest later done logs out o w
-  pub cause : IsCaused end defs past rest later done logs o w
+  pub begun : IsBegun set past rest later done logs out o w
+  pub cause : IsCaused end set past rest later done logs o w
   pub told : ToldBy (is_write_fault end) (sunk o) (sunk w) out held
 
 -- all that was printed is written; or a write failed, and a first part is
@@ -89,7 +90,7 @@ abbrev pub Wrote : RunEnd → List ℕ → Outside → Outside → Type 0
 Wrote end out o w = IsWritten out o.written w.written o.writes w.writes ⊎ ((end ≡ WriteFault) × IsCutShort out o.written w.written o.writes w.writes)
 
 -- the end of a run, its cause, and what is written: `reached` is how it ended, but for a fault of the last write
-pub record Ends (defs : List RecordDef) (end : RunEnd) (o w : Outside) : Type 0 where
+pub record Ends (set : Setting) (end : RunEnd) (o w : Outside) : Type 0 where
   pub reached : RunEnd
   pub past : Past
   pub rest : List ℕ
@@ -97,8 +98,8 @@ pub record Ends (defs : List RecordDef) (end : RunEnd) (o w : Outside) : Type 0 
   pub done : List Act
   pub logs : Logs
   pub out : List ℕ
-  pub begun : IsBegun defs past rest later done logs out o w
-  pub cause : IsCaused reached defs past rest later done logs o w
+  pub begun : IsBegun set past rest later done logs out o w
+  pub cause : IsCaused reached set past rest later done logs o w
   pub last : (end ≡ reached) ⊎ ((end ≡ WriteFault) × Rose o.writes w.writes)
   pub wrote : Wrote end out o w
 
@@ -114,13 +115,13 @@ Finishes end last held was now flushed before after =
     ⊎ ((is_write_fault end ≡ false) × (last ≡ WriteFault) × IsCutShort held was now before after))
 
 -- a run between two items: since the start the bytes of its lines were taken, and all that they lead to was done
-pub record IsRunning (defs : List RecordDef) (o : Outside) (items : Kept) (e : EngineKept) (s : Stripes) (w : Outside) : Type 0 where
+pub record IsRunning (set : Setting) (o : Outside) (items : Kept) (e : EngineKept) (s : Stripes) (w : Outside) : Type 0 where
   pub past : Past
-  pub read : IsRead defs o.left items past w.left
+  pub read : IsRead set.defs o.left items past w.left
   pub mode : items.mode ≡ File
-  pub script : e.script ≡ script_of (items_of File defs past.lines)
-  pub are_open : AreOpen (items_of File defs past.lines)
-  pub at : IsAt (sunk o) defs (acts_of (items_of File defs past.lines)) s e.held (sunk w)
+  pub script : e.script ≡ script_of (items_of File set.defs past.lines)
+  pub are_open : AreOpen (items_of File set.defs past.lines)
+  pub at : IsAt (sunk o) set (acts_of (items_of File set.defs past.lines)) s e.held (sunk w)
   pub same : w.reads ≡ o.reads
 
 -- a text ended: END is heard, and any other end is that of the run

@@ -1,3 +1,4 @@
+pub mod Settings
 pub mod Replies
 pub mod Calls
 pub mod Scripts

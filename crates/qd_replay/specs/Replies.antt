@@ -4,9 +4,12 @@ use Rattle.qd_scheme.specs.declared.defs.RecordDef.{RecordDef}
 use Rattle.qd_scheme.specs.declared.key.Record.{Record}
 use Rattle.qd_grammar.specs.declared.item.Collector.{Collector}
 use Rattle.qd_grammar.specs.declared.item.Item.{Item}
-use Rattle.qd_grammar.specs.declared.item.Item.TheVariants.{Head, Rec, Heartbeat}
+use Rattle.qd_grammar.specs.declared.item.Item.TheVariants.{Head, Rec, Ev, Lost, Heartbeat}
 use Rattle.qd_grammar.specs.declared.item.Message.{Message}
 use Rattle.qd_grammar.specs.declared.item.Message.TheVariants.{TickerData, StreamData, HistoryData, StreamLost, TickerAdd, StreamAdd, HistoryAdd, TickerRemove, StreamRemove, HistoryRemove}
+use Rattle.qd_hist_rules.specs.declared.item.HistItem.{HistItem}
+use Rattle.qd_stream.specs.declared.item.StreamItem.{StreamItem}
+use Rattle.qd_stream.specs.declared.item.StreamItem.TheVariants as stream_items
 use Rattle.qd_grammar.specs.Canonical.{canonical, collector_text}
 
 -- an item of a reply, and the message that it belongs to
@@ -52,3 +55,12 @@ reply_text defs link collector items = mark link collector ++ (items_text defs N
 -- a record that the ticker gives
 abbrev pub ticker_item : Record → ReplyItem
 ticker_item r = record { message = TickerData; item = Rec r }
+
+-- an item that the stream gives: a record, or a count of lost ones
+abbrev pub stream_item : StreamItem → ReplyItem
+stream_item (stream_items.Rec r) = record { message = StreamData; item = Rec r }
+stream_item (stream_items.Lost k count) = record { message = StreamLost; item = Lost k count }
+
+-- an event that the history gives; the number of the commit that it shows is not written
+abbrev pub history_item : HistItem → ReplyItem
+history_item i = record { message = HistoryData; item = Ev i.event }

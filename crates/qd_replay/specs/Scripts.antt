@@ -1,5 +1,6 @@
 -- What a script is: which body lines form a group, and what each item asks for and prints.
 use Rattle.std.specs.Prelude.{ℕ, ◌+◌, ◌≡◌, nat_eq, nat_lt, Bool, true, false, not, ◌||◌, if◌then◌else◌, Option, Some, None, List, [], ◌∷◌, ◌++◌, length}
+use Rattle.qd_scheme.specs.declared.key.Event.{Event}
 use Rattle.qd_scheme.specs.declared.key.Key.{Key}
 use Rattle.qd_scheme.specs.declared.key.Record.{Record}
 use Rattle.qd_sub.specs.declared.sub.Sub.{Sub}
@@ -10,10 +11,12 @@ use Rattle.qd_grammar.specs.declared.item.Item.TheVariants as items
 use Rattle.qd_grammar.specs.declared.item.Message.{Message}
 use Rattle.qd_grammar.specs.declared.item.Message.TheVariants.{TickerData, StreamData, HistoryData, StreamLost, TickerAdd, StreamAdd, HistoryAdd, TickerRemove, StreamRemove, HistoryRemove}
 use Rattle.qd_items.specs.Judging.{Numbered, is_end}
-use Rattle.qd_replay.specs.declared.engine.Kind.{Kind}
-use Rattle.qd_replay.specs.declared.engine.Kind.TheVariants.{Body, Description, Control}
-use Rattle.qd_replay.specs.Calls.{Act, puts, adds, removes, take_call}
-use Rattle.qd_replay.specs.Calls.Act.{Ask, Say}
+use Rattle.qd_replay.specs.declared.kind.Kind.{Kind}
+use Rattle.qd_replay.specs.declared.kind.Kind.TheVariants.{Body, Description, Control}
+use Rattle.qd_stream.specs.declared.item.StreamItem.{StreamItem}
+use Rattle.qd_stream.specs.declared.item.StreamItem.TheVariants as stream_items
+use Rattle.qd_replay.specs.Calls.{Act, ticker_puts, stream_puts, history_puts, adds, removes, takes}
+use Rattle.qd_replay.specs.Calls.Act.{Say}
 
 -- body lines are those of the current message; descriptions and skipped lines do not end a group; all other lines do
 abbrev pub kind_of : Item → Kind
@@ -35,17 +38,34 @@ kind_of (items.At n m) = Control
 kind_of (items.Pump n) = Control
 kind_of (items.Move n w b) = Control
 
--- the open body lines: keys to subscribe to, keys whose subscription ends, and records
+-- the open body lines: keys to subscribe to, keys whose subscription ends, records of the ticker, items of the stream, and events of the history
 pub record Group : Type 0 where
   pub subs : List Sub
   pub keys : List Key
   pub records : List Record
+  pub items : List StreamItem
+  pub events : List Event
 
 abbrev pub no_group : Group
-no_group = record { subs = []; keys = []; records = [] }
+no_group = record { subs = []; keys = []; records = []; items = []; events = [] }
 
 abbrev pub size : Group → ℕ
-size g = length g.subs + length g.keys + length g.records
+size g = length g.subs + length g.keys + length g.records + length g.items + length g.events
+
+abbrev pub with_sub : Sub → Group → Group
+with_sub sub g = record { subs = g.subs ++ sub ∷ []; keys = g.keys; records = g.records; items = g.items; events = g.events }
+
+abbrev pub with_key : Key → Group → Group
+with_key k g = record { subs = g.subs; keys = g.keys ++ k ∷ []; records = g.records; items = g.items; events = g.events }
+
+abbrev pub with_record : Record → Group → Group
+with_record r g = record { subs = g.subs; keys = g.keys; records = g.records ++ r ∷ []; items = g.items; events = g.events }
+
+abbrev pub with_item : StreamItem → Group → Group
+with_item item g = record { subs = g.subs; keys = g.keys; records = g.records; items = g.items ++ item ∷ []; events = g.events }
+
+abbrev pub with_event : Event → Group → Group
+with_event e g = record { subs = g.subs; keys = g.keys; records = g.records; items = g.items; events = g.events ++ e ∷ [] }
 
 -- where a script stands: its current message, its current link, and the open group
 pub record Script : Type 0 where
@@ -65,59 +85,93 @@ abbrev pub is_putting : Option Message → Bool
 is_putting (Some TickerData) = true
 is_putting _ = false
 
--- the body lines subscribe to the ticker
+-- the body lines are records of the stream
+abbrev pub is_streaming : Option Message → Bool
+is_streaming (Some StreamData) = true
+is_streaming _ = false
+
+-- the body lines are counts of records that the stream lost
+abbrev pub is_losing : Option Message → Bool
+is_losing (Some StreamLost) = true
+is_losing _ = false
+
+-- the body lines are events of the history
+abbrev pub is_feeding : Option Message → Bool
+is_feeding (Some HistoryData) = true
+is_feeding _ = false
+
+-- the body lines subscribe to the history, each with its limit
+abbrev pub is_limiting : Option Message → Bool
+is_limiting (Some HistoryAdd) = true
+is_limiting _ = false
+
+-- the body lines subscribe to the ticker or the stream
 abbrev pub is_adding : Option Message → Bool
 is_adding (Some TickerAdd) = true
+is_adding (Some StreamAdd) = true
 is_adding _ = false
 
--- the body lines end subscriptions to the ticker
+-- the body lines end subscriptions
 abbrev pub is_removing : Option Message → Bool
 is_removing (Some TickerRemove) = true
+is_removing (Some StreamRemove) = true
+is_removing (Some HistoryRemove) = true
 is_removing _ = false
 
 -- a body line joins the group
 abbrev pub group_with : Option Message → Item → Group → Group
-group_with message (items.Rec r) g = record { subs = g.subs; keys = g.keys; records = g.records ++ r ∷ [] }
-group_with message (items.Sub k) g =
-    if is_adding message then record { subs = g.subs ++ plain_sub k ∷ []; keys = g.keys; records = g.records } else
-    record { subs = g.subs; keys = g.keys ++ k ∷ []; records = g.records }
+group_with message (items.Rec r) g = if is_streaming message then with_item (stream_items.Rec r) g else with_record r g
+group_with message (items.Lost k count) g = with_item (stream_items.Lost k count) g
+group_with message (items.Ev e) g = with_event e g
+group_with message (items.HistSub s) g = with_sub s g
+group_with message (items.Sub k) g = if is_adding message then with_sub (plain_sub k) g else with_key k g
 group_with message _ g = g
 
 -- the call of a group: one of the message's kind, for the current link
 abbrev pub calls_of : Option Message → ℕ → Group → List Act
-calls_of (Some TickerData) link g = puts g.records
-calls_of (Some TickerAdd) link g = adds link g.subs
-calls_of (Some TickerRemove) link g = removes link g.keys
-calls_of _ link g = []
+calls_of (Some TickerData) link g = ticker_puts g.records
+calls_of (Some StreamData) link g = stream_puts g.items
+calls_of (Some StreamLost) link g = stream_puts g.items
+calls_of (Some HistoryData) link g = history_puts g.events
+calls_of (Some TickerAdd) link g = adds collectors.Ticker link g.subs
+calls_of (Some StreamAdd) link g = adds collectors.Stream link g.subs
+calls_of (Some HistoryAdd) link g = adds collectors.History link g.subs
+calls_of (Some TickerRemove) link g = removes collectors.Ticker link g.keys
+calls_of (Some StreamRemove) link g = removes collectors.Stream link g.keys
+calls_of (Some HistoryRemove) link g = removes collectors.History link g.keys
+calls_of None link g = []
 
 abbrev pub is_full : Group → Bool
 is_full g = nat_eq (size g) 4096
 
--- a TAKE asks the ticker for 1 to 4096 items
-abbrev pub is_taking : Collector → ℕ → Bool
-is_taking collectors.Ticker n = not (nat_eq n 0 || nat_lt 4096 n)
-is_taking _ n = false
+-- a TAKE asks for 1 to 4096 items
+abbrev pub is_taking : ℕ → Bool
+is_taking n = not (nat_eq n 0 || nat_lt 4096 n)
 
--- the items at which a script stops: a link above 127, a TAKE of none or of more than 4096, what belongs to a tree, and what this run has no collector for
+-- an index or a limit of the history is below 2^63
+abbrev pub is_index : ℕ → Bool
+is_index n = nat_lt n 9223372036854775808
+
+-- the items at which a script stops: a link above 127, a TAKE of none or of more than 4096, and what belongs to a tree; beside these what no line spells: a body line under the head of another, a count of no lost record, an index or a limit of 2^63 or more
 abbrev pub is_bad : Option Message → Item → Bool
 is_bad message (items.Link n) = nat_lt 127 n
-is_bad message (items.Take c n) = not (is_taking c n)
+is_bad message (items.Take c n) = not (is_taking n)
 is_bad message (items.Node n m) = true
 is_bad message (items.At n m) = true
 is_bad message (items.Pump n) = true
 is_bad message (items.Move n w b) = true
-is_bad message (items.Rec r) = not (is_putting message)
+is_bad message (items.Rec r) = not (is_putting message || is_streaming message)
 is_bad message (items.Sub k) = not (is_adding message || is_removing message)
-is_bad message (items.Ev e) = true
-is_bad message (items.HistSub s) = true
-is_bad message (items.Lost k n) = true
+is_bad message (items.Ev e) = not (is_feeding message) || not (is_index e.index)
+is_bad message (items.HistSub s) = not (is_limiting message) || not (is_index s.limit)
+is_bad message (items.Lost k n) = not (is_losing message) || nat_eq n 0
 is_bad message _ = false
 
 -- what a line that ends a group does itself
 abbrev pub own_acts : ℕ → Item → List Act
 own_acts link items.Protocol = Say items.Protocol ∷ []
 own_acts link items.End = Say items.End ∷ []
-own_acts link (items.Take c n) = if is_taking c n then Ask (take_call link n) ∷ [] else []
+own_acts link (items.Take c n) = if is_taking n then takes c link n else []
 own_acts link _ = []
 
 -- where a line that ends a group leads

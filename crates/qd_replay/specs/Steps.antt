@@ -4,49 +4,67 @@ use Rattle.qd_buffer.specs.Filled.{Filled}
 use Rattle.qd_outside.specs.Causes.{Rose}
 use Rattle.qd_outside.specs.Writing.{Gained, IsCutShort}
 use Rattle.qd_scheme.specs.declared.defs.RecordDef.{RecordDef}
-use Rattle.qd_scheme.specs.declared.key.Record.{Record}
-use Rattle.qd_gate.specs.Logs.{entry}
-use Rattle.qd_sub.specs.declared.op.Op.{Op}
-use Rattle.qd_sub.specs.declared.op.Op.TheVariants.{Take}
 use Rattle.qd_sub.specs.declared.op.Reply.{Reply}
 use Rattle.qd_sub.specs.declared.op.Reply.TheVariants as replies
-use Rattle.qd_ticker.specs.Legal.{TickerEntry, no_terms, IsLegal}
-use Rattle.qd_ticker.specs.Stripes.{Stands}
+use Rattle.qd_hist_rules.specs.declared.item.HistItem.{HistItem}
+use Rattle.qd_hist_rules.specs.declared.reply.HistoryReply.{HistoryReply}
+use Rattle.qd_hist_rules.specs.declared.reply.HistoryReply.TheVariants as events
+use Rattle.qd_grammar.specs.declared.item.Collector.{Collector}
 use Rattle.qd_grammar.specs.declared.item.Item.{Item}
 use Rattle.qd_grammar.specs.declared.item.Message.{Message}
 use Rattle.qd_items.specs.declared.ends.RunEnd.{RunEnd}
 use Rattle.qd_items.specs.declared.ends.RunEnd.TheVariants.{Done, CutOff, Bad, LineTooLong, BadStep, Refused, TooMuch, ReadFault, WriteFault, Spent, NoMemory}
 use Rattle.qd_items.specs.Judging.{is_end}
-use Rattle.qd_replay.specs.declared.engine.Joined.{Joined}
-use Rattle.qd_replay.specs.declared.engine.Joined.TheVariants as joins
+use Rattle.qd_replay.specs.declared.group.Joined.{Joined}
+use Rattle.qd_replay.specs.declared.group.Joined.TheVariants as joins
 use Rattle.qd_replay.specs.declared.stripes.Stripes.{Stripes}
 use Rattle.qd_replay.specs.declared.stripes.Refusal.{Refusal}
 use Rattle.qd_replay.specs.declared.stripes.Refusal.TheVariants as refusals
-use Rattle.qd_replay.specs.Calls.{Call, Act, empty_of, take_call}
+use Rattle.qd_replay.specs.Calls.{Call, Answer, Act}
 use Rattle.qd_replay.specs.Calls.Act.{Ask, Say}
-use Rattle.qd_replay.specs.Running.{Logs, Ran, Has, AreLegal, IsRefusal, IsTurnedDown, IsRefused}
+use Rattle.qd_replay.specs.Replies.{ReplyItem, reply_text}
+use Rattle.qd_replay.specs.Running.{Logs, Ran, Has, AreLegal, Stand, Tells, TellsEvent, IsGranted, IsTurnedDown, IsRefused, logged, text_of}
 use Rattle.qd_replay.specs.Scripts.{Script, Group, no_group, group_with, is_bad, after, acts_with, own_acts, led_by, goes_on}
+use Rattle.qd_replay.specs.Settings.{Caps, Setting}
 
 -- a reply grants a call that wants nothing else, or refuses it
-abbrev pub Grants : Reply Record → Result (Unit {0}) Refusal → Type 0
+abbrev pub Grants : {T : Type 0} → Reply T → Result (Unit {0}) Refusal → Type 0
 Grants reply (Ok u) = reply ≡ replies.Done
-Grants reply (Err (refusals.TooMany limit)) = IsRefusal limit reply
+Grants reply (Err (refusals.TooMany limit)) = Tells (refusals.TooMany limit) reply
+Grants reply (Err refusals.Spent) = Tells refusals.Spent reply
 Grants reply (Err refusals.NoMemory) = Unit {0}
 
 -- the items of a reply
-abbrev pub HasItems : Reply Record → Option (Filled Record) → Type 0
+abbrev pub HasItems : {T : Type 0} → Reply T → Option (Filled T) → Type 0
 HasItems reply (Some items) = reply ≡ replies.Items items
 HasItems reply None = Unit {0}
 
+abbrev pub GrantsEvent : HistoryReply → Result (Unit {0}) Refusal → Type 0
+GrantsEvent reply (Ok u) = reply ≡ events.Done
+GrantsEvent reply (Err (refusals.TooMany limit)) = TellsEvent (refusals.TooMany limit) reply
+GrantsEvent reply (Err refusals.Spent) = TellsEvent refusals.Spent reply
+GrantsEvent reply (Err refusals.NoMemory) = Unit {0}
+
+abbrev pub HasEvents : HistoryReply → Option (Filled HistItem) → Type 0
+HasEvents reply (Some items) = reply ≡ events.Items items
+HasEvents reply None = Unit {0}
+
+-- what became of a body line that was pushed
+abbrev pub joined_of : {E : Type 0} → Result (Unit {0}) E → Joined
+joined_of (Ok u) = joins.Joined
+joined_of (Err e) = joins.NoMemory
+
 -- these acts, at most one call, were done, or the call was refused
 abbrev pub Makes : List Act → Result (Unit {0}) Refusal → Stripes → Stripes → Type 0
-Makes acts (Ok u) s t = (defs : List RecordDef) (done : List Act) (out : List ℕ) → Has defs done s out → Has defs (acts ++ done) t out
-Makes acts (Err (refusals.TooMany limit)) s t = (defs : List RecordDef) (done : List Act) (out : List ℕ) → Has defs done s out → IsTurnedDown limit acts defs done out
+Makes acts (Ok u) s t = (set : Setting) (done : List Act) (out : List ℕ) → Has set done s out → Has set (acts ++ done) t out
+Makes acts (Err (refusals.TooMany limit)) s t = (set : Setting) (done : List Act) (out : List ℕ) → Has set done s out → IsTurnedDown (refusals.TooMany limit) acts set done out
+Makes acts (Err refusals.Spent) s t = (set : Setting) (done : List Act) (out : List ℕ) → Has set done s out → IsTurnedDown refusals.Spent acts set done out
 Makes acts (Err refusals.NoMemory) s t = Unit {0}
 
 -- the end of a run at a line that ends a group whose call was refused
 abbrev pub ended_by : ℕ → Refusal → RunEnd
 ended_by line (refusals.TooMany limit) = Refused line limit
+ended_by line refusals.Spent = Spent
 ended_by line refusals.NoMemory = NoMemory
 
 -- what a sink tells
@@ -62,9 +80,9 @@ pub record IsShown (o w : Sunk) (out held : List ℕ) : Type 0 where
   pub same : w.faults ≡ o.faults
 
 -- since the sink was as it was at `o`, these acts were done
-pub record IsAt (o : Sunk) (defs : List RecordDef) (done : List Act) (s : Stripes) (held : List ℕ) (w : Sunk) : Type 0 where
+pub record IsAt (o : Sunk) (set : Setting) (done : List Act) (s : Stripes) (held : List ℕ) (w : Sunk) : Type 0 where
   pub out : List ℕ
-  pub has : Has defs done s out
+  pub has : Has set done s out
   pub shown : IsShown o w out held
 
 abbrev pub is_write_fault : RunEnd → Bool
@@ -77,26 +95,28 @@ ToldBy true o w out held = IsCutShort out o.written w.written o.faults w.faults
 ToldBy false o w out held = IsShown o w out held
 
 -- why an item ends a run, where it leads to the acts `later` behind those that were done of it
-abbrev pub Stops : RunEnd → Option Message → Item → ℕ → List Act → Logs → ℕ → ℕ → Type 0
-Stops Done message item line later logs before after = (is_end item ≡ true) × (later ≡ [])
-Stops (BadStep n) message item line later logs before after = (is_bad message item ≡ true) × (n ≡ line) × (later ≡ [])
-Stops (Refused n limit) message item line later logs before after =
-    (n ≡ line) × (call : Call) × (more : List Act) × (later ≡ more ++ Ask call ∷ []) × IsRefused limit call logs
-Stops WriteFault message item line later logs before after = Rose before after
-Stops NoMemory message item line later logs before after = Unit {0}
-Stops _ message item line later logs before after = ⊥
+abbrev pub Stops : RunEnd → Caps → Option Message → Item → ℕ → List Act → Logs → ℕ → ℕ → Type 0
+Stops Done caps message item line later logs before after = (is_end item ≡ true) × (later ≡ [])
+Stops (BadStep n) caps message item line later logs before after = (is_bad message item ≡ true) × (n ≡ line) × (later ≡ [])
+Stops (Refused n limit) caps message item line later logs before after =
+    (n ≡ line) × (call : Call) × (more : List Act) × (later ≡ more ++ Ask call ∷ []) × IsRefused caps (refusals.TooMany limit) call logs
+Stops Spent caps message item line later logs before after =
+    (call : Call) × (more : List Act) × (later ≡ more ++ Ask call ∷ []) × IsRefused caps refusals.Spent call logs
+Stops WriteFault caps message item line later logs before after = Rose before after
+Stops NoMemory caps message item line later logs before after = Unit {0}
+Stops _ caps message item line later logs before after = ⊥
 
 -- a run ended at an item that leads to these acts: of these the acts `now` were done, and the acts `later` were not
-pub record IsHalted (end : RunEnd) (message : Option Message) (item : Item) (line : ℕ) (acts : List Act) (o : Sunk) (defs : List RecordDef) (done : List Act) (held : List ℕ) (w : Sunk) : Type 0 where
+pub record IsHalted (end : RunEnd) (message : Option Message) (item : Item) (line : ℕ) (acts : List Act) (o : Sunk) (set : Setting) (done : List Act) (held : List ℕ) (w : Sunk) : Type 0 where
   pub later : List Act
   pub now : List Act
   pub acts_are : acts ≡ later ++ now
   pub logs : Logs
   pub out : List ℕ
-  pub ran : Ran defs (now ++ done) logs out
-  pub legal : AreLegal logs
+  pub ran : Ran set.defs (now ++ done) logs out
+  pub legal : AreLegal set.caps logs
   pub told : ToldBy (is_write_fault end) o w out held
-  pub cause : Stops end message item line later logs o.faults w.faults
+  pub cause : Stops end set.caps message item line later logs o.faults w.faults
 
 -- an engine's state: where its script stands, and what it holds back
 pub record Kept : Type 0 where
@@ -112,19 +132,21 @@ abbrev pub without_group : Kept → Kept
 without_group e = with_group no_group e
 
 -- a body line joined the open group, or it is none of this run, or there was no memory
-abbrev pub Joins : Item → Joined → Kept → Kept → Type 0
-Joins item joins.Joined e f = (is_bad e.script.message item ≡ false) × (f ≡ with_group (group_with e.script.message item e.script.group) e)
-Joins item joins.Bad e f = (is_bad e.script.message item ≡ true) × (f ≡ e)
-Joins item joins.NoMemory e f = f.held ≡ e.held
+abbrev pub Joins : Option Message → Item → Joined → Group → Group → Type 0
+Joins message item joins.Joined g h = (is_bad message item ≡ false) × (h ≡ group_with message item g)
+Joins message item joins.Bad g h = (is_bad message item ≡ true) × (h ≡ g)
+Joins message item joins.NoMemory g h = Unit {0}
 
 -- the run went on, with these acts done
 abbrev pub WentOn : List Act → List RecordDef → Kept → Stripes → Sunk → Kept → Stripes → Sunk → Type 0
-WentOn acts defs e s w f t v = (o : Sunk) (done : List Act) → IsAt o defs done s e.held w → IsAt o defs (acts ++ done) t f.held v
+WentOn acts defs e s w f t v = (o : Sunk) (caps : Caps) (done : List Act)
+    → IsAt o (record { defs = defs; caps = caps }) done s e.held w → IsAt o (record { defs = defs; caps = caps }) (acts ++ done) t f.held v
 
 -- the run ended
 abbrev pub Halts : RunEnd → Item → ℕ → List Act → List RecordDef → Kept → Stripes → Sunk → Kept → Sunk → Type 0
 Halts end item line acts defs e s w f v =
-    (o : Sunk) (done : List Act) → IsAt o defs done s e.held w → IsHalted end e.script.message item line acts o defs done f.held v
+    (o : Sunk) (caps : Caps) (done : List Act)
+    → IsAt o (record { defs = defs; caps = caps }) done s e.held w → IsHalted end e.script.message item line acts o (record { defs = defs; caps = caps }) done f.held v
 
 -- an item was heard
 abbrev pub Hears : Item → ℕ → List RecordDef → Option RunEnd → Kept → Stripes → Sunk → Kept → Stripes → Sunk → Type 0
@@ -138,19 +160,21 @@ ActsItself item line defs None e s w f t v =
     (f.script ≡ led_by item e.script.message e.script.link) × (goes_on item e.script.message ≡ true) × WentOn (own_acts e.script.link item) defs e s w f t v
 ActsItself item line defs (Some end) e s w f t v = Halts end item line (own_acts e.script.link item) defs e s w f v
 
--- the ticker took this step
-abbrev pub Turns : Op Record Record → Reply Record → Stripes → Stripes → Type 0
-Turns op reply s t =
-    (log : List TickerEntry) (who : ℕ) → Stands s.ticker log → IsLegal no_terms log
-    → Stands t.ticker (log ++ entry who op reply ∷ []) × IsLegal no_terms (log ++ entry who op reply ∷ [])
+-- a call was made, and answered so
+abbrev pub Turns : (call : Call) → Answer call → Stripes → Stripes → Type 0
+Turns call reply s t =
+    (caps : Caps) (logs : Logs) → Stand caps s logs → AreLegal caps logs → Stand caps t (logged logs call reply) × AreLegal caps (logged logs call reply)
 
--- a TAKE was asked of the ticker, and answered with these items; or there was no memory
-abbrev pub Gives : ℕ → ℕ → Option (Filled Record) → Stripes → Stripes → Type 0
-Gives link n (Some given) s t = Turns (Take link n (empty_of 4096)) (replies.Items given) s t
-Gives link n None s t = Unit {0}
+-- a call was answered, and this is what is printed of it; or there was no memory
+abbrev pub Gives : Call → Option (List RecordDef → List ℕ) → Stripes → Stripes → Type 0
+Gives call (Some text) s t = (reply : Answer call) × IsGranted call reply × ((defs : List RecordDef) → text_of defs call reply ≡ text defs) × Turns call reply s t
+Gives call None s t = Unit {0}
 
--- a TAKE was asked of the ticker, and its reply printed
-abbrev pub Takes : ℕ → List RecordDef → Option RunEnd → Kept → Stripes → Sunk → Kept → Stripes → Sunk → Type 0
-Takes n defs None e s w f t v = WentOn (Ask (take_call e.script.link n) ∷ []) defs e s w f t v
-Takes n defs (Some end) e s w f t v =
-    (item : Item) (line : ℕ) → Halts end item line (Ask (take_call e.script.link n) ∷ []) defs e s w f v
+-- what is printed of items that an agent was given
+abbrev pub given_text : {T : Type 0} → (T → ReplyItem) → Collector → ℕ → Filled T → List RecordDef → List ℕ
+given_text shown collector link given defs = reply_text defs link collector (map shown given.items)
+
+-- a call was made, and its reply printed
+abbrev pub Takes : Call → List RecordDef → Option RunEnd → Kept → Stripes → Sunk → Kept → Stripes → Sunk → Type 0
+Takes call defs None e s w f t v = WentOn (Ask call ∷ []) defs e s w f t v
+Takes call defs (Some end) e s w f t v = (item : Item) (line : ℕ) → Halts end item line (Ask call ∷ []) defs e s w f v

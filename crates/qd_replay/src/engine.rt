@@ -3,92 +3,33 @@ ghost use Rattle.std.specs.Prelude.{◌≡◌, ◌<◌, ◌≤◌, ◌∷◌, []
 ghost use Rattle.qd_outside.specs.Buffering.{Prints, Drains};
 ghost use Rattle.qd_scheme.specs.declared.defs.RecordDef.{RecordDef};
 ghost use Rattle.qd_replay.specs.declared.stripes.Stripes.{Stripes};
-ghost use Rattle.qd_replay.specs.Calls.{empty_of};
-ghost use Rattle.qd_replay.specs.Replies.{line_of, reply_text, ticker_item};
-ghost use Rattle.qd_replay.specs.Scripts.{start, size, is_full, kind_of, is_taking, is_putting, is_adding, is_removing, calls_of, own_acts, group_with, no_group};
-ghost use Rattle.qd_replay.specs.Steps.{Makes, Hears, ActsItself, Joins, Takes, Halts, Sunk, ended_by, with_group, without_group};
+ghost use Rattle.qd_replay.specs.declared.kind.Kind.{Kind};
+ghost use Rattle.qd_replay.specs.Replies.{line_of, reply_text};
+ghost use Rattle.qd_replay.specs.Scripts.{start, size, kind_of, calls_of, own_acts, no_group};
+ghost use Rattle.qd_replay.specs.Steps.{Makes, Hears, ActsItself, Takes, Halts, Sunk, ended_by, without_group};
 
+use crate::given::{Given, Spares, take_buffer};
+use crate::group::{Joined, OpenGroup};
+use crate::kind::{Kind, is_taking, kind_of};
 use crate::output::Output;
 use crate::stripes::{Refusal, Stripes};
 use qd_buffer::Buffer;
 use qd_grammar::{Collector, Item, Message};
+use qd_history::HistItem;
 use qd_items::RunEnd;
 use qd_outside::Sink;
-use qd_scheme::{AgentNo, Key, Record, Scheme};
-use qd_sub::Sub;
-use std::alloc::{AllocError, Global};
+use qd_scheme::{AgentNo, Record, Scheme};
+use qd_stream::StreamItem;
+use std::alloc::Global;
 use std::marker::Model;
-
-/// The most body lines of a group, and the most items of a TAKE.
-const MOST: usize = 4096;
-
-/// What a line is to the group that is open.
-#[derive(Clone, Copy, Debug, PartialEq, Eq, Drop)]
-pub enum Kind {
-    /// It joins the group.
-    Body,
-    /// It passes it by.
-    Description,
-    /// It ends it.
-    Control,
-}
-
-/// What became of a body line.
-#[derive(Clone, Copy, Debug, PartialEq, Eq, Drop)]
-pub enum Joined {
-    Joined,
-    Bad,
-    NoMemory,
-}
-
-fn kind_of(item: &Item) -> Kind
-    ensures { result ≡ kind_of item.now }
-{
-    match item {
-        Item::Rec(_) | Item::Ev(_) | Item::Sub(_) | Item::HistSub(_) | Item::Lost(_, _) => {
-            Kind::Body
-        }
-        Item::Describe(_) => Kind::Description,
-        _ => Kind::Control,
-    }
-}
-
-fn is_putting(message: Option<Message>) -> bool
-    ensures { result ≡ is_putting message }
-{
-    match message {
-        Some(Message::TickerData) => true,
-        _ => false,
-    }
-}
-
-fn is_adding(message: Option<Message>) -> bool
-    ensures { result ≡ is_adding message }
-{
-    match message {
-        Some(Message::TickerAdd) => true,
-        _ => false,
-    }
-}
-
-fn is_removing(message: Option<Message>) -> bool
-    ensures { result ≡ is_removing message }
-{
-    match message {
-        Some(Message::TickerRemove) => true,
-        _ => false,
-    }
-}
 
 /// Does what the items of a script ask for, one after the other.
 #[derive(Drop)]
 pub struct Engine {
     message: Option<Message>,
     link: AgentNo,
-    subs: Vec<Sub>,
-    keys: Vec<Key>,
-    records: Vec<Record>,
-    spare: Option<Buffer<Record>>,
+    group: OpenGroup,
+    spares: Spares,
     output: Output,
 }
 
@@ -98,7 +39,7 @@ impl Model for Engine {
     ghost Value = { Kept };
 
     ghost view = { λ e. record {
-      script = record { message = e.message; link = e.link; group = record { subs = e.subs.items; keys = e.keys.items; records = e.records.items } };
+      script = record { message = e.message; link = e.link; group = e.group };
       held = e.output;
     } };
 }
@@ -110,24 +51,13 @@ impl Engine {
         Engine {
             message: None,
             link: first_agent(),
-            subs: Vec::new(alloc),
-            keys: Vec::new(alloc),
-            records: Vec::new(alloc),
-            spare: None,
+            group: OpenGroup::new(alloc),
+            spares: Spares {
+                records: None,
+                items: None,
+                events: None,
+            },
             output: Output::new(alloc),
-        }
-    }
-
-    /// Makes the call of the open group.
-    fn make_call(&self, alloc: Global, stripes: &mut Stripes) -> Result<(), Refusal>
-        requires { size self.now.script.group ≤ 4096 }
-        ensures { Makes (calls_of self.now.script.message self.now.script.link self.now.script.group) result stripes.old stripes.new }
-    {
-        match self.message {
-            Some(Message::TickerData) => stripes.put(alloc, &self.records),
-            Some(Message::TickerAdd) => stripes.add(alloc, self.link, &self.subs),
-            Some(Message::TickerRemove) => stripes.remove(alloc, self.link, &self.keys),
-            _ => Ok(()),
         }
     }
 
@@ -138,64 +68,9 @@ impl Engine {
         ensures cleared { IfOk result (λ _. self.new ≡ without_group self.old) }
         ensures held { self.new.held ≡ self.old.held }
     {
-        self.make_call(alloc, stripes)?;
-        self.subs.clear();
-        self.keys.clear();
-        self.records.clear();
+        self.group.call(alloc, self.message, self.link, stripes)?;
+        self.group.clear();
         Ok(())
-    }
-
-    /// A body line joins the open group.
-    fn join(&mut self, item: &Item) -> Joined
-        requires { kind_of item.now ≡ Kind.Body }
-        ensures { Joins item.now result self.old self.new }
-    {
-        match item {
-            Item::Rec(r) => self.join_record(r),
-            Item::Sub(key) => self.join_key(key),
-            Item::Ev(_) | Item::HistSub(_) | Item::Lost(_, _) => Joined::Bad,
-            _ => unreachable!(),
-        }
-    }
-
-    fn join_record(&mut self, r: &Record) -> Joined
-        ensures { Joins (Item.Rec r.now) result self.old self.new }
-    {
-        if !is_putting(self.message) {
-            return Joined::Bad;
-        }
-        match self.records.push(*r) {
-            Ok(()) => Joined::Joined,
-            Err(_) => Joined::NoMemory,
-        }
-    }
-
-    fn join_key(&mut self, key: &Key) -> Joined
-        ensures { Joins (Item.Sub key.now) result self.old self.new }
-    {
-        if is_adding(self.message) {
-            return match self.subs.push(Sub {
-                key: *key,
-                limit: 0,
-            }) {
-                Ok(()) => Joined::Joined,
-                Err(_) => Joined::NoMemory,
-            };
-        }
-        if !is_removing(self.message) {
-            return Joined::Bad;
-        }
-        match self.keys.push(*key) {
-            Ok(()) => Joined::Joined,
-            Err(_) => Joined::NoMemory,
-        }
-    }
-
-    fn is_full(&self) -> bool
-        requires { size self.now.script.group ≤ 4096 }
-        ensures { result ≡ is_full self.now.script.group }
-    {
-        self.subs.len() + self.keys.len() + self.records.len() == MOST
     }
 
     /// A body line: it joins the group, which is called once it is full.
@@ -210,11 +85,11 @@ impl Engine {
         requires few { size self.old.script.group < 4096 }
         ensures { (defs : List RecordDef) (w : Sunk) → Hears item.now line defs result self.old stripes.old w self.new stripes.new w }
     {
-        match self.join(item) {
+        match self.group.join(self.message, item) {
             Joined::Bad => Some(RunEnd::BadStep { line }),
             Joined::NoMemory => Some(RunEnd::NoMemory),
             Joined::Joined => {
-                if !self.is_full() {
+                if !self.group.is_full() {
                     return None;
                 }
                 match self.call_group(alloc, stripes) {
@@ -223,17 +98,6 @@ impl Engine {
                 }
             }
         }
-    }
-
-    /// A buffer for the answer to a TAKE: the one of the TAKE before, where there is one.
-    fn take_buffer(&mut self, alloc: Global) -> Result<Buffer<Record>, AllocError>
-        ensures made { IfOk result (λ b. b ≡ empty_of 4096) }
-        ensures same { self.new ≡ self.old }
-    {
-        if let Some(spare) = self.spare.take() {
-            return emptied(alloc, spare);
-        }
-        Buffer::with_room(alloc, MOST as u16)
     }
 
     /// Prints the canonical line of an item.
@@ -251,22 +115,25 @@ impl Engine {
         self.link
     }
 
-    /// Asks the ticker for at most n items for the current link, and prints them.
-    fn take_ticker<K: Sink>(
+    /// Asks a collector for at most n items for the current link, and prints them.
+    fn take_of<T: Given, K: Sink>(
         &mut self,
+        alloc: Global,
         scheme: &Scheme,
         stripes: &mut Stripes,
         n: u16,
-        out: Buffer<Record>,
         sink: &mut K,
     ) -> Option<RunEnd>
         requires low { 1 ≤ n }
         requires high { n ≤ 4096 }
-        requires out { out ≡ empty_of 4096 }
         ensures script { self.new.script ≡ self.old.script }
-        ensures takes { Takes n scheme.now result self.old stripes.old (record { written = K.written sink.old; faults = K.faults sink.old }) self.new stripes.new (record { written = K.written sink.new; faults = K.faults sink.new }) }
+        ensures takes { Takes (T.take_call self.old.script.link n) scheme.now result self.old stripes.old (record { written = K.written sink.old; faults = K.faults sink.old }) self.new stripes.new (record { written = K.written sink.new; faults = K.faults sink.new }) }
     {
-        match stripes.take(self.current_link(), n, out) {
+        let out = match take_buffer(alloc, &mut self.spares) {
+            Err(_) => return Some(RunEnd::NoMemory),
+            Ok(out) => out,
+        };
+        match T::take(stripes, self.current_link(), n, out) {
             None => Some(RunEnd::NoMemory),
             Some(items) => {
                 if !self.show(scheme, items, sink) {
@@ -277,16 +144,16 @@ impl Engine {
         }
     }
 
-    /// Prints a reply of the ticker to the current link, and keeps its buffer.
-    fn show<K: Sink>(&mut self, scheme: &Scheme, items: Buffer<Record>, sink: &mut K) -> bool
+    /// Prints a reply to the current link, and keeps its buffer.
+    fn show<T: Given, K: Sink>(&mut self, scheme: &Scheme, items: Buffer<T>, sink: &mut K) -> bool
         ensures script { self.new.script ≡ self.old.script }
-        ensures printed { Prints result (reply_text scheme.now self.old.script.link Collector.Ticker (map ticker_item items.items)) self.old.held self.new.held (K.written sink.old) (K.written sink.new) (K.faults sink.old) (K.faults sink.new) }
+        ensures printed { Prints result (reply_text scheme.now self.old.script.link T.giver (map T.shown items.items)) self.old.held self.new.held (K.written sink.old) (K.written sink.new) (K.faults sink.old) (K.faults sink.new) }
     {
         let link = self.link.get();
         let shown = self
             .output
-            .reply(scheme, link, Collector::Ticker, items.as_slice(), sink);
-        self.spare = Some(items);
+            .reply(scheme, link, T::collector(), items.as_slice(), sink);
+        T::keep(&mut self.spares, items);
         shown
     }
 
@@ -304,12 +171,19 @@ impl Engine {
         requires { self.old.script.group ≡ no_group }
         ensures { ActsItself (Item.Take collector n) line scheme.now result self.old stripes.old (record { written = K.written sink.old; faults = K.faults sink.old }) self.new stripes.new (record { written = K.written sink.new; faults = K.faults sink.new }) }
     {
-        if !is_taking(collector, n) {
+        if !is_taking(n) {
             return Some(RunEnd::BadStep { line });
         }
-        match self.take_buffer(alloc) {
-            Err(_) => Some(RunEnd::NoMemory),
-            Ok(out) => self.take_ticker(scheme, stripes, n as u16, out, sink),
+        match collector {
+            Collector::Ticker => {
+                self.take_of::<Record, K>(alloc, scheme, stripes, n as u16, sink)
+            }
+            Collector::Stream => {
+                self.take_of::<StreamItem, K>(alloc, scheme, stripes, n as u16, sink)
+            }
+            Collector::History => {
+                self.take_of::<HistItem, K>(alloc, scheme, stripes, n as u16, sink)
+            }
         }
     }
 
@@ -433,31 +307,9 @@ fn ended_by(refusal: Refusal, line: u64) -> RunEnd
 {
     match refusal {
         Refusal::TooMany(limit) => RunEnd::Refused { line, limit },
+        Refusal::Spent => RunEnd::Spent,
         Refusal::NoMemory => RunEnd::NoMemory,
     }
-}
-
-/// A TAKE asks a collector of this run for 1 to 4096 items.
-fn is_taking(collector: Collector, n: u64) -> bool
-    ensures taking { result ≡ is_taking collector n }
-    ensures low { result ≡ true → 1 ≤ n }
-    ensures high { result ≡ true → n ≤ 4096 }
-{
-    match collector {
-        Collector::Ticker => n > 0 && n <= 4096,
-        _ => false,
-    }
-}
-
-/// The buffer without items, or another one where its room is not that of a TAKE.
-fn emptied(alloc: Global, mut buffer: Buffer<Record>) -> Result<Buffer<Record>, AllocError>
-    ensures { IfOk result (λ b. b ≡ empty_of 4096) }
-{
-    if buffer.room() != 4096 {
-        return Buffer::with_room(alloc, 4096);
-    }
-    buffer.clear();
-    Ok(buffer)
 }
 
 /// The agent of a link.

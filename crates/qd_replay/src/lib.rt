@@ -6,11 +6,15 @@
 //! each collector (`specs/Running.antt`), how a run ends and from which cause (`specs/Ends.antt`), and that a sound script
 //! is done where nothing outside fails (`specs/Deciding.antt`).
 //!
-//! A collector stands in `stripes`, in the cases of `Call`, `calls_of` and `is_taking`, and in a log of `Logs`; the steps of
-//! the engine and the laws of a run speak of none in particular.
+//! What differs from collector to collector stands in few places: its stripe in `stripes`, its body lines in `group`, what it
+//! gives to a TAKE in `given`; and in `specs/` a case of `Call` with its answer, log and text (`Calls.antt`, `Running.antt`),
+//! `calls_of` (`Scripts.antt`). The steps of the engine and the laws of a run speak of none in particular.
 #![tactic(auto)]
 
 mod engine;
+mod given;
+mod group;
+mod kind;
 mod output;
 mod running;
 mod stripes;

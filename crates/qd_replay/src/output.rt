@@ -7,8 +7,10 @@ ghost use Rattle.qd_replay.specs.Replies.{number_of, line_of, head_before, items
 
 use qd_decimal::{Line, write_count};
 use qd_grammar::{Collector, Item, Message};
+use qd_history::HistItem;
 use qd_outside::{OutBuffer, Sink};
 use qd_scheme::{Record, Scheme};
+use qd_stream::StreamItem;
 use qd_text::write_item;
 use std::alloc::Global;
 use std::marker::Model;
@@ -38,6 +40,40 @@ impl Shown for Record {
 
     fn item(&self) -> Item {
         Item::Rec(*self)
+    }
+}
+
+impl Shown for StreamItem {
+    ghost use Rattle.qd_replay.specs.Replies.{stream_item};
+
+    ghost shown = { stream_item };
+
+    fn message(&self) -> Message {
+        match self {
+            StreamItem::Rec(_) => Message::StreamData,
+            StreamItem::Lost(_, _) => Message::StreamLost,
+        }
+    }
+
+    fn item(&self) -> Item {
+        match self {
+            StreamItem::Rec(record) => Item::Rec(*record),
+            StreamItem::Lost(key, count) => Item::Lost(*key, *count),
+        }
+    }
+}
+
+impl Shown for HistItem {
+    ghost use Rattle.qd_replay.specs.Replies.{history_item};
+
+    ghost shown = { history_item };
+
+    fn message(&self) -> Message {
+        Message::HistoryData
+    }
+
+    fn item(&self) -> Item {
+        Item::Ev(self.event)
     }
 }
 

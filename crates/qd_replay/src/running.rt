@@ -1,11 +1,11 @@
 //! A script is run.
-ghost use Rattle.std.specs.Prelude.{◌≡◌, ◌<◌, ◌⊎◌, [], List, ℕ, Some};
+ghost use Rattle.std.specs.Prelude.{◌≡◌, ◌<◌, ◌≤◌, ◌⊎◌, [], List, ℕ, Some};
 ghost use Rattle.qd_grammar.specs.declared.item.Mode.TheVariants.{File};
 ghost use Rattle.qd_items.specs.declared.ends.RunEnd.TheVariants as ends;
 ghost use Rattle.qd_items.specs.Standing.{opening};
 ghost use Rattle.qd_replay.specs.Deciding.{IsSound, NoFault};
 ghost use Rattle.qd_replay.specs.Ends.{Ends, IsEnded, IsFlushed, Finishes, Outside, LastBy};
-ghost use Rattle.qd_replay.specs.Running.{Stand, no_logs};
+ghost use Rattle.qd_replay.specs.Running.{Stand, caps_of, no_logs};
 ghost use Rattle.qd_replay.specs.Scripts.{start, size};
 ghost use Rattle.qd_replay.specs.Steps.{is_write_fault};
 
@@ -17,26 +17,31 @@ use qd_outside::{Sink, Source};
 use qd_scheme::Scheme;
 use std::alloc::Global;
 
-/// Runs a script on new collectors: makes the calls that its groups ask for, and prints the replies to its TAKEs. All
+/// Runs a script on new collectors, where at most `cap` items wait for an agent of the stream and at most
+/// `hcap` events are owed to an agent of the history: makes the calls that its groups ask for, and prints the replies to its TAKEs. All
 /// that was printed is written before the run ends.
 pub fn replay<S: Source, K: Sink>(
     alloc: Global,
     scheme: &Scheme,
+    cap: u16,
+    hcap: u16,
     source: &mut S,
     sink: &mut K,
 ) -> RunEnd
+    requires cap { (1 ≤ cap) × (cap ≤ 4096) }
+    requires hcap { (1 ≤ hcap) × (hcap ≤ 4096) }
     // The run ends with a cause, and what is written is the text of what was done.
-    ensures ends { Ends scheme.now result
+    ensures ends { Ends (record { defs = scheme.now; caps = record { cap = cap; hcap = hcap } }) result
         (record { left = S.left source.old; reads = S.faults source.old; written = K.written sink.old; writes = K.faults sink.old })
         (record { left = S.left source.new; reads = S.faults source.new; written = K.written sink.new; writes = K.faults sink.new }) }
     ensures flushed { IsFlushed result (K.flushed sink.new) }
     ensures kept { S.kept source.new ≡ S.kept source.old }
     // A sound script is done, where no fault is counted; but for want of memory.
-    ensures decided { (text : List ℕ) → S.left source.old ≡ Some text → IsSound scheme.now text
+    ensures decided { (text : List ℕ) → S.left source.old ≡ Some text → IsSound (record { defs = scheme.now; caps = record { cap = cap; hcap = hcap } }) text
         → NoFault (S.faults source.old) (S.faults source.new) (K.faults sink.old) (K.faults sink.new)
         → (result ≡ RunEnd.Done) ⊎ (result ≡ RunEnd.NoMemory) }
 {
-    let mut stripes = match Stripes::new(alloc) {
+    let mut stripes = match Stripes::new(alloc, cap, hcap) {
         Err(_) => return RunEnd::NoMemory,
         Ok(stripes) => stripes,
     };
@@ -69,8 +74,8 @@ fn run<S: Source, K: Sink>(
 ) -> RunEnd
     requires items { items.old ≡ opening File }
     requires engine { engine.old ≡ record { script = start; held = [] } }
-    requires stripes { Stand stripes.old no_logs }
-    ensures ended { IsEnded scheme.now result
+    requires stripes { Stand (caps_of stripes.old) stripes.old no_logs }
+    ensures ended { IsEnded (record { defs = scheme.now; caps = caps_of stripes.old }) result
         (record { left = S.left source.old; reads = S.faults source.old; written = K.written sink.old; writes = K.faults sink.old })
         engine.new.held
         (record { left = S.left source.new; reads = S.faults source.new; written = K.written sink.new; writes = K.faults sink.new }) }

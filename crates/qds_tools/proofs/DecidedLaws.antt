@@ -10,6 +10,7 @@ use Rattle.qd_outside.specs.Causes.{Rose}
 use Rattle.qd_outside.specs.Opening.{Told, OpensIn, IsHeld, LeftOf}
 use Rattle.qd_outside.specs.Writing.{Gained}
 use Rattle.qd_replay.specs.Ends.{IsFlushed as ReplayFlushed}
+use Rattle.qd_replay.specs.Settings.{Setting}
 use Rattle.qd_scheme.specs.Builtin.{builtin_defs}
 use Rattle.qd_scheme.specs.declared.defs.RecordDef.{RecordDef}
 use Rattle.qd_scheme_file.specs.declared.no_scheme.NoScheme.{NoScheme}
@@ -21,7 +22,7 @@ use Rattle.qd_words.specs.declared.ask.Command.{Command}
 use Rattle.qd_words.specs.declared.ask.Command.TheVariants.{Check, Fmt, Replay}
 use Rattle.qds_tools.specs.declared.program_end.ProgramEnd.{ProgramEnd}
 use Rattle.qds_tools.specs.declared.program_end.ProgramEnd.TheVariants.{Usage, Refused, Ran}
-use Rattle.qds_tools.specs.Commands.{RunsBy, LeadsTo}
+use Rattle.qds_tools.specs.Commands.{setting_of, RunsBy, LeadsTo}
 use Rattle.qds_tools.specs.Program.{World, IsReadOn, SchemeComes, RunsOn, FileRuns, Ends, HasText, IsScheme, IsText, NoFault}
 use Rattle.qds_tools.specs.Statuses.{status_of, Reports}
 
@@ -81,11 +82,11 @@ renamed end last other was now text printed e p (inl (x, g)) = inl (x ∙ sym e,
 renamed end last other was now text printed e p (inr x) = inr x
 
 -- the run of a command over a text that is told
-by_text : (command : Command) (defs : List RecordDef) (text : List ℕ) (printed : Option (List ℕ)) (end other : RunEnd) (o w : Outside) → RunsBy command defs o end w → o.left ≡ Some text → LeadsTo command defs text other printed
+by_text : (command : Command) (set : Setting) (text : List ℕ) (printed : Option (List ℕ)) (end other : RunEnd) (o w : Outside) → RunsBy command set o end w → o.left ≡ Some text → LeadsTo command set text other printed
     → (Rose o.reads w.reads → ⊥) → (Rose o.writes w.writes → ⊥) → ((end ≡ other) × IfSome printed (Gained o.written w.written)) ⊎ (end ≡ runs.NoMemory)
-by_text Check defs text printed end other o w r left (last, lines, d, e, p) reads writes = renamed end (run_end last) other o.written w.written (check_text defs lines) printed e p (r.1 text last lines left d reads writes)
-by_text Fmt defs text printed end other o w r left (last, lines, d, e, p) reads writes = renamed end (run_end last) other o.written w.written (fmt_text defs lines) printed e p (r.1 text last lines left d reads writes)
-by_text Replay defs text printed end other o w r left (sound, e, p) reads writes = done (r.1 text left sound (reads, writes))
+by_text Check set text printed end other o w r left (last, lines, d, e, p) reads writes = renamed end (run_end last) other o.written w.written (check_text set.defs lines) printed e p (r.1 text last lines left d reads writes)
+by_text Fmt set text printed end other o w r left (last, lines, d, e, p) reads writes = renamed end (run_end last) other o.written w.written (fmt_text set.defs lines) printed e p (r.1 text last lines left d reads writes)
+by_text Replay set text printed end other o w r left (sound, e, p) reads writes = done (r.1 text left sound (reads, writes))
   where
     done : (end ≡ runs.Done) ⊎ (end ≡ runs.NoMemory) → ((end ≡ other) × IfSome printed (Gained o.written w.written)) ⊎ (end ≡ runs.NoMemory)
     done (inl x) = inl (x ∙ sym e, subst (λ (t : Option (List ℕ)). IfSome t (Gained o.written w.written)) (sym p) tt)
@@ -124,14 +125,14 @@ flushed_by runs.WriteFault flushed f = tt
 flushed_by runs.NoMemory flushed f = tt
 
 -- the run over the text that is asked for
-by_asked : (command : Command) (file : Option (List ℕ)) (defs : List RecordDef) (text : List ℕ) (printed : Option (List ℕ)) (end other : RunEnd) (o w : World) → RunsOn command defs file end o w → IsText file o text → LeadsTo command defs text other printed → NoFault o w
+by_asked : (command : Command) (file : Option (List ℕ)) (set : Setting) (text : List ℕ) (printed : Option (List ℕ)) (end other : RunEnd) (o w : World) → RunsOn command set file end o w → IsText file o text → LeadsTo command set text other printed → NoFault o w
     → ((end ≡ other) × IfSome printed (Gained o.written w.written)) ⊎ (end ≡ runs.NoMemory)
-by_asked command None defs text printed end other o w r t l n =
-    by_text command defs text printed end other (record { left = o.left; reads = o.reads; written = o.written; writes = o.writes }) (record { left = w.left; reads = w.reads; written = w.written; writes = w.writes }) r.0 t l n.1 n.2
-by_asked command (Some name) defs text printed end other o w (inl (opened, p, r, f, k), u) t l n =
-    by_text command defs text printed end other (record { left = opened.left; reads = opened.read_faults; written = o.written; writes = o.writes }) (record { left = w.files.left; reads = w.files.read_faults; written = w.written; writes = w.writes })
+by_asked command None set text printed end other o w r t l n =
+    by_text command set text printed end other (record { left = o.left; reads = o.reads; written = o.written; writes = o.writes }) (record { left = w.left; reads = w.reads; written = w.written; writes = w.writes }) r.0 t l n.1 n.2
+by_asked command (Some name) set text printed end other o w (inl (opened, p, r, f, k), u) t l n =
+    by_text command set text printed end other (record { left = opened.left; reads = opened.read_faults; written = o.written; writes = o.writes }) (record { left = w.files.left; reads = w.files.read_faults; written = w.written; writes = w.writes })
     r (opened_text name text o.files opened p t) l (λ rose. n.0 (subst (λ (m : ℕ). Rose m w.files.read_faults) (opened_faults name o.files opened p) rose)) n.2
-by_asked command (Some name) defs text printed end other o w (inr r, u) t l n = absurd (n.0 r.0.2)
+by_asked command (Some name) set text printed end other o w (inr r, u) t l n = absurd (n.0 r.0.2)
 
 -- the text, and that no fault was counted, once the scheme came
 text_still : (file : Option (List ℕ)) (text : List ℕ) (o : World) (files : Told) → files.holds ≡ o.files.holds → IsText file o text → IsText file (record o { files = files }) text
@@ -140,7 +141,7 @@ text_still (Some name) text o files e t = same_text name text o.files files e t
 
 -- scheme and text alone decide how a run ends in which no fault is counted, and what it prints
 pub run_decided : (ask : Asked) (defs : List RecordDef) (text : List ℕ) (printed : Option (List ℕ)) (other : RunEnd) (end : ProgramEnd) (o w : World)
-    → Ends ask end o w → IsScheme ask.scheme o.files (Ok defs) → LeadsTo ask.command defs text other printed → IsText ask.file o text → NoFault o w
+    → Ends ask end o w → IsScheme ask.scheme o.files (Ok defs) → LeadsTo ask.command (setting_of ask defs) text other printed → IsText ask.file o text → NoFault o w
     → ((end ≡ Ran other) × IfSome printed (Gained o.written w.written)) ⊎ (status_of end ≡ 5)
 run_decided ask defs text printed other Usage o w e s l t n = absurd e
 run_decided ask defs text printed other (Refused why) o w e s l t n = go (refused_is ask.scheme why (Ok defs) o.files w.files e.0 s n.0)
@@ -149,8 +150,8 @@ run_decided ask defs text printed other (Refused why) o w e s l t n = go (refuse
     go (inl x) = absurd (cc)
     go (inr x) = inr (ap (λ (y : NoScheme). status_of (Refused y)) x)
 run_decided ask defs text printed other (Ran end) o w (came, files, c, r) s l t n =
-    go (by_asked ask.command ask.file defs text printed end other (record o { files = files }) w
-    (subst (λ (d : List RecordDef). RunsOn ask.command d ask.file end (record o { files = files }) w) same r)
+    go (by_asked ask.command ask.file (setting_of ask defs) text printed end other (record o { files = files }) w
+    (subst (λ (d : List RecordDef). RunsOn ask.command (setting_of ask d) ask.file end (record o { files = files }) w) same r)
     (text_still ask.file text o files (scheme_holds ask.scheme came o.files files c) t) l
     ((λ rose. n.0 (subst (λ (m : ℕ). Rose m w.files.read_faults) (scheme_faults ask.scheme came o.files files c) rose)), n.1, n.2))
   where

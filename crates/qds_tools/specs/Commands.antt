@@ -10,7 +10,9 @@ use Rattle.qd_items.specs.Deciding.{Decides}
 use Rattle.qd_items.specs.Runs.{run_end}
 use Rattle.qd_replay.specs.Deciding.{IsSound, NoFault}
 use Rattle.qd_replay.specs.Ends.{Outside as ReplayOutside, Ends as ReplayEnds}
+use Rattle.qd_replay.specs.Settings.{Setting}
 use Rattle.qd_scheme.specs.declared.defs.RecordDef.{RecordDef}
+use Rattle.qd_words.specs.Asking.{Asked}
 use Rattle.qd_words.specs.declared.ask.Command.{Command}
 use Rattle.qd_words.specs.declared.ask.Command.TheVariants.{Check, Fmt, Replay}
 
@@ -18,20 +20,24 @@ use Rattle.qd_words.specs.declared.ask.Command.TheVariants.{Check, Fmt, Replay}
 abbrev pub told : Outside → ReplayOutside
 told o = record { left = o.left; reads = o.reads; written = o.written; writes = o.writes }
 
--- a script ran to its end; a sound one is done where no fault was counted, but for want of memory
-abbrev pub Replays : List RecordDef → RunEnd → Outside → Outside → Type 0
-Replays defs end o w =
-    ReplayEnds defs end (told o) (told w)
-    × ((text : List ℕ) → o.left ≡ Some text → IsSound defs text → NoFault o.reads w.reads o.writes w.writes → (end ≡ runs.Done) ⊎ (end ≡ runs.NoMemory))
+-- what a command runs with, where this is its scheme
+abbrev pub setting_of : Asked → List RecordDef → Setting
+setting_of ask defs = record { defs = defs; caps = record { cap = ask.cap; hcap = ask.hcap } }
 
--- a command ran over a text with a scheme; where no fault was counted, the text alone decided how
-abbrev pub RunsBy : Command → List RecordDef → Outside → RunEnd → Outside → Type 0
-RunsBy Check defs o end w = Runs (check_text defs) defs o end w × IsDecided (check_text defs) defs o end w
-RunsBy Fmt defs o end w = Runs (fmt_text defs) defs o end w × IsDecided (fmt_text defs) defs o end w
-RunsBy Replay defs o end w = Replays defs end o w
+-- a script ran to its end; a sound one is done where no fault was counted, but for want of memory
+abbrev pub Replays : Setting → RunEnd → Outside → Outside → Type 0
+Replays set end o w =
+    ReplayEnds set end (told o) (told w)
+    × ((text : List ℕ) → o.left ≡ Some text → IsSound set text → NoFault o.reads w.reads o.writes w.writes → (end ≡ runs.Done) ⊎ (end ≡ runs.NoMemory))
+
+-- a command ran over a text; where no fault was counted, the text alone decided how
+abbrev pub RunsBy : Command → Setting → Outside → RunEnd → Outside → Type 0
+RunsBy Check set o end w = Runs (check_text set.defs) set.defs o end w × IsDecided (check_text set.defs) set.defs o end w
+RunsBy Fmt set o end w = Runs (fmt_text set.defs) set.defs o end w × IsDecided (fmt_text set.defs) set.defs o end w
+RunsBy Replay set o end w = Replays set end o w
 
 -- a text leads a command to this end, and to these bytes that it prints, where the text alone decides them
-abbrev pub LeadsTo : Command → List RecordDef → List ℕ → RunEnd → Option (List ℕ) → Type 0
-LeadsTo Check defs text end printed = (last : TextEnd) × (lines : List (List ℕ)) × Decides File defs text last lines × (end ≡ run_end last) × (printed ≡ Some (check_text defs lines))
-LeadsTo Fmt defs text end printed = (last : TextEnd) × (lines : List (List ℕ)) × Decides File defs text last lines × (end ≡ run_end last) × (printed ≡ Some (fmt_text defs lines))
-LeadsTo Replay defs text end printed = IsSound defs text × (end ≡ runs.Done) × (printed ≡ None)
+abbrev pub LeadsTo : Command → Setting → List ℕ → RunEnd → Option (List ℕ) → Type 0
+LeadsTo Check set text end printed = (last : TextEnd) × (lines : List (List ℕ)) × Decides File set.defs text last lines × (end ≡ run_end last) × (printed ≡ Some (check_text set.defs lines))
+LeadsTo Fmt set text end printed = (last : TextEnd) × (lines : List (List ℕ)) × Decides File set.defs text last lines × (end ≡ run_end last) × (printed ≡ Some (fmt_text set.defs lines))
+LeadsTo Replay set text end printed = IsSound set text × (end ≡ runs.Done) × (printed ≡ None)

@@ -6,6 +6,7 @@ use Rattle.qd_items.specs.declared.ends.RunEnd.TheVariants as runs
 use Rattle.qd_outside.specs.Causes.{Rose}
 use Rattle.qd_outside.specs.Opening.{Told, OpensIn}
 use Rattle.qd_outside.specs.Writing.{Gained}
+use Rattle.qd_replay.specs.Settings.{Setting}
 use Rattle.qd_scheme.specs.Builtin.{builtin_defs}
 use Rattle.qd_scheme.specs.declared.defs.RecordDef.{RecordDef}
 use Rattle.qd_scheme_file.specs.declared.no_scheme.NoScheme.{NoScheme}
@@ -15,7 +16,7 @@ use Rattle.qd_words.specs.Asking.{Asked}
 use Rattle.qd_words.specs.declared.ask.Command.{Command}
 use Rattle.qds_tools.specs.declared.program_end.ProgramEnd.{ProgramEnd}
 use Rattle.qds_tools.specs.declared.program_end.ProgramEnd.TheVariants.{Usage, Refused, Ran}
-use Rattle.qds_tools.specs.Commands.{RunsBy, LeadsTo}
+use Rattle.qds_tools.specs.Commands.{setting_of, RunsBy, LeadsTo}
 
 -- what is told outside: by the files, of standard input and of standard output
 pub record World : Type 0 where
@@ -43,16 +44,16 @@ SchemeComes None (Err why) before after = (why ≡ schemes.NoMemory) × (after �
 SchemeComes (Some name) end before after = SchemeRead name end before after
 
 -- a command ran over standard input
-abbrev pub RunsOnInput : Command → List RecordDef → RunEnd → World → World → Type 0
-RunsOnInput command defs end o w =
-    RunsBy command defs (record { left = o.left; reads = o.reads; written = o.written; writes = o.writes }) end (record { left = w.left; reads = w.reads; written = w.written; writes = w.writes })
+abbrev pub RunsOnInput : Command → Setting → RunEnd → World → World → Type 0
+RunsOnInput command set end o w =
+    RunsBy command set (record { left = o.left; reads = o.reads; written = o.written; writes = o.writes }) end (record { left = w.left; reads = w.reads; written = w.written; writes = w.writes })
     × IsFlushed end w.flushed × (w.files ≡ o.files)
 
 -- a command ran over the file of this name, or it could not be opened: the files, what is written, whether it is flushed, and the faults of writing, before and after
-abbrev pub FileRuns : Command → List RecordDef → List ℕ → RunEnd → Told → Told → Option (List ℕ) → Option (List ℕ) → Bool → Bool → ℕ → ℕ → Type 0
-FileRuns command defs name end before after was now flushed ends writes later =
+abbrev pub FileRuns : Command → Setting → List ℕ → RunEnd → Told → Told → Option (List ℕ) → Option (List ℕ) → Bool → Bool → ℕ → ℕ → Type 0
+FileRuns command set name end before after was now flushed ends writes later =
     ((opened : Told) × OpensIn true name before opened
-    × RunsBy command defs (record { left = opened.left; reads = opened.read_faults; written = was; writes = writes }) end (record { left = after.left; reads = after.read_faults; written = now; writes = later })
+    × RunsBy command set (record { left = opened.left; reads = opened.read_faults; written = was; writes = writes }) end (record { left = after.left; reads = after.read_faults; written = now; writes = later })
     × IsFlushed end ends × IsReadOn opened after)
     ⊎ (OpensIn false name before after × (end ≡ runs.ReadFault) × (now ≡ was) × (ends ≡ flushed) × (later ≡ writes))
 
@@ -65,15 +66,15 @@ abbrev pub IsUnwritten : World → World → Type 0
 IsUnwritten o w = (w.written ≡ o.written) × (w.flushed ≡ o.flushed) × (w.writes ≡ o.writes)
 
 -- a command ran over its text
-abbrev pub RunsOn : Command → List RecordDef → Option (List ℕ) → RunEnd → World → World → Type 0
-RunsOn command defs None end o w = RunsOnInput command defs end o w
-RunsOn command defs (Some name) end o w = FileRuns command defs name end o.files w.files o.written w.written o.flushed w.flushed o.writes w.writes × IsUnread o w
+abbrev pub RunsOn : Command → Setting → Option (List ℕ) → RunEnd → World → World → Type 0
+RunsOn command set None end o w = RunsOnInput command set end o w
+RunsOn command set (Some name) end o w = FileRuns command set name end o.files w.files o.written w.written o.flushed w.flushed o.writes w.writes × IsUnread o w
 
 -- how what was asked ended: the scheme comes first, then the run over the text; where the scheme is refused, no text is read and nothing is written
 abbrev pub Ends : Asked → ProgramEnd → World → World → Type 0
 Ends ask Usage o w = ⊥
 Ends ask (Refused why) o w = SchemeComes ask.scheme (Err why) o.files w.files × IsUnread o w × IsUnwritten o w
-Ends ask (Ran end) o w = (defs : List RecordDef) × (files : Told) × SchemeComes ask.scheme (Ok defs) o.files files × RunsOn ask.command defs ask.file end (record o { files = files }) w
+Ends ask (Ran end) o w = (defs : List RecordDef) × (files : Told) × SchemeComes ask.scheme (Ok defs) o.files files × RunsOn ask.command (setting_of ask defs) ask.file end (record o { files = files }) w
 
 -- the file of this name has these bytes, as the files tell
 abbrev pub HasText : Told → List ℕ → List ℕ → Type 0

@@ -6,7 +6,7 @@ ghost use Rattle.qd_scheme_file.specs.declared.no_scheme.NoScheme.{NoScheme};
 ghost use Rattle.qd_words.specs.Asking.{Asked, asks};
 ghost use Rattle.qds_tools.specs.declared.program_end.ProgramEnd.{ProgramEnd};
 ghost use Rattle.qds_tools.specs.declared.program_end.ProgramEnd.TheVariants.{Usage, Refused, Ran};
-ghost use Rattle.qds_tools.specs.Commands.{LeadsTo};
+ghost use Rattle.qds_tools.specs.Commands.{LeadsTo, setting_of};
 ghost use Rattle.qds_tools.specs.Program.{Ends, IsScheme, IsText, NoFault};
 ghost use Rattle.qds_tools.specs.Statuses.{Reports};
 
@@ -43,7 +43,7 @@ pub fn plain_main<F: Files, S: Source, K: Sink, E: Sink>(
         → Reports (Refused why) result (E.written err.old) (E.written err.new) (E.faults err.old) (E.faults err.new) ⊎ (result ≡ 5) }
     // Scheme and text alone decide how a run ends in which no fault is counted, and what it prints, but for want of memory.
     ensures decided { (ask : Asked) (defs : List RecordDef) (text : List ℕ) (printed : Option (List ℕ)) (end : RunEnd) → asks (map string_bytes words.now.items) ≡ Some ask
-        → IsScheme ask.scheme (F.told files.old) (Ok defs) → LeadsTo ask.command defs text end printed
+        → IsScheme ask.scheme (F.told files.old) (Ok defs) → LeadsTo ask.command (setting_of ask defs) text end printed
         → IsText ask.file (record { files = F.told files.old; left = S.left input.old; reads = S.faults input.old; written = K.written out.old; flushed = K.flushed out.old; writes = K.faults out.old }) text
         → NoFault (record { files = F.told files.old; left = S.left input.old; reads = S.faults input.old; written = K.written out.old; flushed = K.flushed out.old; writes = K.faults out.old })
         (record { files = F.told files.new; left = S.left input.new; reads = S.faults input.new; written = K.written out.new; flushed = K.flushed out.new; writes = K.faults out.new })

@@ -2,9 +2,9 @@
 
 ghost use Rattle.std.specs.Prelude.{◌≡◌};
 ghost use Rattle.std.specs.Option.{option_copied};
-ghost use Rattle.qd_words.specs.Asking.{asked};
+ghost use Rattle.qd_words.specs.Asking.{asked, HasSizes};
 ghost use Rattle.qd_check.specs.Runs.{IsFlushed};
-ghost use Rattle.qds_tools.specs.Commands.{RunsBy};
+ghost use Rattle.qds_tools.specs.Commands.{RunsBy, setting_of};
 ghost use Rattle.qds_tools.specs.Program.{Ends, RunsOn, FileRuns, SchemeComes, SchemeRead};
 
 use crate::program_end::ProgramEnd;
@@ -25,19 +25,12 @@ pub fn run_asked<F: Files, S: Source, K: Sink>(
     input: &mut S,
     out: &mut K,
 ) -> ProgramEnd
+    requires { HasSizes ask }
     ensures { Ends (asked ask.entry) result (record { files = F.told files.old; left = S.left input.old; reads = S.faults input.old; written = K.written out.old; flushed = K.flushed out.old; writes = K.faults out.old })
         (record { files = F.told files.new; left = S.left input.new; reads = S.faults input.new; written = K.written out.new; flushed = K.flushed out.new; writes = K.faults out.new }) }
 {
     match scheme_of(alloc, ask.scheme, files) {
-        Ok(scheme) => ProgramEnd::Ran(run_on(
-            alloc,
-            ask.command,
-            ask.file,
-            &scheme,
-            files,
-            input,
-            out,
-        )),
+        Ok(scheme) => ProgramEnd::Ran(run_on(alloc, &ask, &scheme, files, input, out)),
         Err(why) => ProgramEnd::Refused(why),
     }
 }
@@ -69,57 +62,59 @@ fn scheme_in<F: Files>(alloc: Global, name: &str, files: &mut F) -> Result<Schem
 /// Runs a command over its text: standard input where no file is named.
 fn run_on<F: Files, S: Source, K: Sink>(
     alloc: Global,
-    command: Command,
-    file: Option<&str>,
+    ask: &Ask<'_>,
     scheme: &Scheme,
     files: &mut F,
     input: &mut S,
     out: &mut K,
 ) -> RunEnd
-    ensures { RunsOn command scheme.now (option_copied file.entry) result (record { files = F.told files.old; left = S.left input.old; reads = S.faults input.old; written = K.written out.old; flushed = K.flushed out.old; writes = K.faults out.old })
+    requires { HasSizes ask.now }
+    ensures { RunsOn ask.now.command (setting_of (asked ask.now) scheme.now) (asked ask.now).file result (record { files = F.told files.old; left = S.left input.old; reads = S.faults input.old; written = K.written out.old; flushed = K.flushed out.old; writes = K.faults out.old })
         (record { files = F.told files.new; left = S.left input.new; reads = S.faults input.new; written = K.written out.new; flushed = K.flushed out.new; writes = K.faults out.new }) }
 {
-    match file {
-        Some(name) => run_file(alloc, command, name, scheme, files, out),
-        None => run(alloc, command, scheme, input, out),
+    match ask.file {
+        Some(name) => run_file(alloc, ask, name, scheme, files, out),
+        None => run(alloc, ask, scheme, input, out),
     }
 }
 
 /// Runs a command over a file.
 fn run_file<F: Files, K: Sink>(
     alloc: Global,
-    command: Command,
+    ask: &Ask<'_>,
     name: &str,
     scheme: &Scheme,
     files: &mut F,
     out: &mut K,
 ) -> RunEnd
-    ensures { FileRuns command scheme.now name.now result (F.told files.old) (F.told files.new) (K.written out.old) (K.written out.new) (K.flushed out.old) (K.flushed out.new) (K.faults out.old) (K.faults out.new) }
+    requires { HasSizes ask.now }
+    ensures { FileRuns ask.now.command (setting_of (asked ask.now) scheme.now) name.now result (F.told files.old) (F.told files.new) (K.written out.old) (K.written out.new) (K.flushed out.old) (K.flushed out.new) (K.faults out.old) (K.faults out.new) }
 {
     if !files.open_in(name) {
         return RunEnd::ReadFault;
     }
     let mut source = FileSource::new(files);
-    run(alloc, command, scheme, &mut source, out)
+    run(alloc, ask, scheme, &mut source, out)
 }
 
 /// Runs a command over a source.
 #[tactic(auto, using(crate::proofs::DecidedLaws::flushed_by))]
 fn run<S: Source, K: Sink>(
     alloc: Global,
-    command: Command,
+    ask: &Ask<'_>,
     scheme: &Scheme,
     source: &mut S,
     out: &mut K,
 ) -> RunEnd
+    requires { HasSizes ask.now }
     ensures kept { S.kept source.new ≡ S.kept source.old }
-    ensures runs { RunsBy command scheme.now (record { left = S.left source.old; reads = S.faults source.old; written = K.written out.old; writes = K.faults out.old })
+    ensures runs { RunsBy ask.now.command (setting_of (asked ask.now) scheme.now) (record { left = S.left source.old; reads = S.faults source.old; written = K.written out.old; writes = K.faults out.old })
         result (record { left = S.left source.new; reads = S.faults source.new; written = K.written out.new; writes = K.faults out.new }) }
     ensures flushed { IsFlushed result (K.flushed out.new) }
 {
-    match command {
+    match ask.command {
         Command::Check => check(alloc, scheme, source, out),
         Command::Fmt => fmt(alloc, scheme, source, out),
-        Command::Replay => replay(alloc, scheme, source, out),
+        Command::Replay => replay(alloc, scheme, ask.cap, ask.hcap, source, out),
     }
 }

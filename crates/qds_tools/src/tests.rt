@@ -91,7 +91,7 @@ struct Case {
     err: &'static str,
 }
 
-const CASES: [Case; 18] = [
+const CASES: [Case; 20] = [
     // Of two quotes of a key the second alone is given.
     Case {
         run: Run {
@@ -112,6 +112,26 @@ const CASES: [Case; 18] = [
         status: 0,
         out: "==PROTOCOL|1\n#LINK|0|TICKER\n==TICKER_DATA\nBar|X|1.5\n==HEARTBEAT\n==END\n",
         err: "",
+    },
+    // Where one item may wait, the first of two is lost.
+    Case {
+        run: Run {
+            words: "replay;--cap;1;",
+            input: "==PROTOCOL|1\n==STREAM_ADD_SUBSCRIPTION\nTrade|A\n==STREAM_DATA\nTrade|A|1|1|1\nTrade|A|2|2|2\n==TAKE|STREAM|10\n==END\n",
+            ..PLAIN
+        },
+        status: 0,
+        out: "==PROTOCOL|1\n#LINK|0|STREAM\n==STREAM_LOST\nTrade|A|1\n==STREAM_DATA\nTrade|A|2|2|2\n==HEARTBEAT\n==END\n",
+        err: "",
+    },
+    Case {
+        run: Run {
+            words: "replay;--cap=0;",
+            ..PLAIN
+        },
+        status: 2,
+        out: "",
+        err: "qds: usage\n",
     },
     // A group that a wrong line follows is not called.
     Case {

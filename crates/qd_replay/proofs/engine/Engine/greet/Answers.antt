@@ -3,7 +3,7 @@ use Rattle.qd_replay.proofs.Halts.{said, said_short, closed_script}
 use Rattle.qd_replay.proofs.engine.Engine.greet.Goals as goal
 
 pub returns-then-not-say : goal.returns-then-not-say
-returns-then-not-say g c = λ s o done at. said_short _ _ _ _ _ _ _ _ _ _ _ _ c.if-not-say.ensures.printed at
+returns-then-not-say g c = λ s o caps done at. said_short _ _ _ _ _ _ _ _ _ _ _ _ c.if-not-say.ensures.printed at
 
 pub returns : goal.returns
-returns g c = λ s. (c.if-not-say.ensures.script ∙ closed_script _ c.requires, refl, λ o done at. said _ _ _ _ _ _ _ _ _ c.if-not-say.ensures.printed at)
+returns g c = λ s. (c.if-not-say.ensures.script ∙ closed_script _ c.requires, refl, λ o caps done at. said _ _ _ _ _ _ _ _ _ c.if-not-say.ensures.printed at)
