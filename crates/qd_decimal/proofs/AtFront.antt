@@ -10,7 +10,9 @@ use Rattle.qd_decimal.specs.Grammar.{is_digit, AreDigits, Parts, sign, behind_po
 use Rattle.qd_decimal.specs.Numbers.{fitting, with_digits, times, signed_fit}
 use Rattle.qd_decimal.specs.Reading.{digits_end, has_minus, start_of, dec_of, int_of}
 use Rattle.qd_decimal.specs.Exact.{past, IsFine}
-use Rattle.qd_decimal.specs.Fronts.{ends_part}
+use lib.IntN.{ℤ}
+use Rattle.qd_decimal.specs.Fronts.{ends_part, part_len, with_len, front_read}
+use Rattle.qd_decimal.specs.declared.fault.DecFault.{DecFault}
 use Rattle.qd_decimal.specs.declared.fronts.Front.{Front}
 use Rattle.qd_decimal.proofs.Shapes.{append_none}
 use Rattle.qd_decimal.proofs.Alive.{digits_taken, digits_then, sign_text, taken, prefix_of_end, length_taken}
@@ -186,22 +188,9 @@ module _ (text : List ℕ) (w n : ℕ) (some : start_of text < w) (digits : w �
           ∙ ap (λ v. signed_fit (has_minus text) v) (sym value);
     }
 
--- what a front tells, where its number is told
-pub told : (scale : ℕ) (text : List ℕ) (at : ℕ) (negative : Bool) (number : Option ℕ) (read : Option Front) → negative ≡ has_minus text → IsFront scale text at number → IfSome read (λ front. signed_fit negative number ≡ Ok front.value) → IfSome read (λ front. front.len ≡ at) → IfSome read (λ front. (dec_of scale (take front.len text) ≡ Ok front.value) × (front.len ≡ prefix_len (λ b. not (b == 9)) text))
-told scale text at negative number None e f h k = tt
-told scale text at negative number (Some read) e f h k = (ap (λ n. dec_of scale (take n text)) k ∙ f.reads ∙ ap (λ b. signed_fit b number) (sym e) ∙ h, k ∙ f.ends)
-
-pub told_whole : (text : List ℕ) (at : ℕ) (negative : Bool) (number : Option ℕ) (read : Option Front) → negative ≡ has_minus text → IsWholeFront text at number → IfSome read (λ front. signed_fit negative number ≡ Ok front.value) → IfSome read (λ front. front.len ≡ at) → IfSome read (λ front. (int_of (take front.len text) ≡ Ok front.value) × (front.len ≡ prefix_len (λ b. not (b == 9)) text))
-told_whole text at negative number None e f h k = tt
-told_whole text at negative number (Some read) e f h k = (ap (λ n. int_of (take n text)) k ∙ f.reads ∙ ap (λ b. signed_fit b number) (sym e) ∙ h, k ∙ f.ends)
-
-pub first_of : {A : Type 0} (P Q : A → Type 0) (read : Option A) → IfSome read (λ x. P x × Q x) → IfSome read P
-first_of P Q None h = tt
-first_of P Q (Some x) h = h.0
-
-pub second_of : {A : Type 0} (P Q : A → Type 0) (read : Option A) → IfSome read (λ x. P x × Q x) → IfSome read Q
-second_of P Q None h = tt
-second_of P Q (Some x) h = h.1
+-- what a front is read as, with its length
+told : (read : List ℕ → Result ℤ DecFault) (text : List ℕ) (at : ℕ) (number : Result ℤ DecFault) (answer : Result Front DecFault) → answer ≡ with_len at number → at ≡ part_len text → read (take at text) ≡ number → answer ≡ front_read read text
+told read text at number answer h e r = h ∙ ap (λ v. with_len at v) (sym r) ∙ ap (λ n. with_len n (read (take n text))) e
 
 -- no zero is left out behind a whole number
 pub times_one : (n : ℕ) → n < 2 ^ 64 → times (Some n) (10 ^ 0) ≡ Some n
@@ -215,7 +204,7 @@ goes_on text w h e = go (w == length text) refl e
     go false q e = grind (arith, nat_tests)
 
 -- what the code found of the front of a text, and what it tells
-module _ (text : List ℕ) (start w n : ℕ) (negative : Bool) (read : Option Front) (byte : start ≡ bool_byte negative) (minus : negative ≡ has_minus text) (some : w ≡ start → ⊥) (order : start ≤ w) (within : w ≤ length text) (digits : w ≤ digits_end text start) (number : with_digits (Some 0) (slice_range text start w) ≡ Some n) where
+module _ (text : List ℕ) (start w n : ℕ) (negative : Bool) (answer : Result Front DecFault) (byte : start ≡ bool_byte negative) (minus : negative ≡ has_minus text) (some : w ≡ start → ⊥) (order : start ≤ w) (within : w ≤ length text) (digits : w ≤ digits_end text start) (number : with_digits (Some 0) (slice_range text start w) ≡ Some n) where
   starts : start ≡ start_of text
   starts = start_byte text start negative byte minus
 
@@ -228,15 +217,18 @@ module _ (text : List ℕ) (start w n : ℕ) (negative : Bool) (read : Option Fr
   number_here : with_digits (Some 0) (slice_range text (start_of text) w) ≡ Some n
   number_here = rw starts at number
 
-  pub whole_told : (scale : ℕ) → true ≡ ends_part text w → IfSome read (λ front. signed_fit negative (times (Some n) (10 ^ scale)) ≡ Ok front.value) → IfSome read (λ front. front.len ≡ w) → IfSome read (λ front. (dec_of scale (take front.len text) ≡ Ok front.value) × (front.len ≡ prefix_len (λ b. not (b == 9)) text))
-  whole_told scale e h k = told scale text w negative (times (Some n) (10 ^ scale)) read minus (whole_front text w n some_here digits_here within number_here scale (sym e)) h k
+  pub whole_told : (scale : ℕ) → true ≡ ends_part text w → answer ≡ with_len w (signed_fit negative (times (Some n) (10 ^ scale))) → answer ≡ front_read (dec_of scale) text
+  whole_told scale e h =
+      let f = whole_front text w n some_here digits_here within number_here scale (sym e) in
+      told (dec_of scale) text w (signed_fit negative (times (Some n) (10 ^ scale))) answer h f.ends (f.reads ∙ ap (λ b. signed_fit b (times (Some n) (10 ^ scale))) (sym minus))
 
-  pub int_told : n < 2 ^ 64 → true ≡ ends_part text w → IfSome read (λ front. signed_fit negative (times (Some n) (10 ^ 0)) ≡ Ok front.value) → IfSome read (λ front. front.len ≡ w) → IfSome read (λ front. (int_of (take front.len text) ≡ Ok front.value) × (front.len ≡ prefix_len (λ b. not (b == 9)) text))
-  int_told l e h k = told_whole text w negative (Some n) read minus (int_front text w n some_here digits_here within number_here (sym e)) (subst (λ v. IfSome read (λ front. signed_fit negative v ≡ Ok front.value)) (times_one n l) h) k
+  pub int_told : n < 2 ^ 64 → true ≡ ends_part text w → answer ≡ with_len w (signed_fit negative (times (Some n) (10 ^ 0))) → answer ≡ front_read int_of text
+  int_told l e h =
+      let f = int_front text w n some_here digits_here within number_here (sym e) in
+      told int_of text w (signed_fit negative (times (Some n) (10 ^ 0))) answer h f.ends (f.reads ∙ ap (λ b. signed_fit b (Some n)) (sym minus) ∙ ap (λ v. signed_fit negative v) (sym (times_one n l)))
 
-  pub fraction_told : (scale p m kept missing : ℕ) → false ≡ ends_part text w → get_or text w 0 ≡ 46 → w + 1 ≤ p → p ≤ kept → kept ≡ min (w + 1 + scale) (length text) → p ≤ digits_end text (w + 1) → with_digits (Some n) (slice_range text (w + 1) p) ≡ Some m → missing ≡ scale - (p - (w + 1)) → true ≡ ends_part text p → IfSome read (λ front. signed_fit negative (times (Some m) (10 ^ missing)) ≡ Ok front.value) → IfSome read (λ front. front.len ≡ p) → IfSome read (λ front. (dec_of scale (take front.len text) ≡ Ok front.value) × (front.len ≡ prefix_len (λ b. not (b == 9)) text))
-  fraction_told scale p m kept missing b point o l q d s g e h k =
+  pub fraction_told : (scale p m kept missing : ℕ) → false ≡ ends_part text w → get_or text w 0 ≡ 46 → w + 1 ≤ p → p ≤ kept → kept ≤ w + 1 + scale → kept ≤ length text → p ≤ digits_end text (w + 1) → with_digits (Some n) (slice_range text (w + 1) p) ≡ Some m → missing ≡ scale - (p - (w + 1)) → true ≡ ends_part text p → answer ≡ with_len p (signed_fit negative (times (Some m) (10 ^ missing))) → answer ≡ front_read (dec_of scale) text
+  fraction_told scale p m kept missing b point o l q i d s g e h =
       let more : w < length text = goes_on text w within b in
-      told scale text p negative (times (Some m) (10 ^ (scale - (p - (w + 1))))) read minus
-      (fraction_front text w n some_here digits_here within number_here scale p m point more o (omega arith) (omega arith) d s (sym e))
-      (subst (λ i. IfSome read (λ front. signed_fit negative (times (Some m) (10 ^ i)) ≡ Ok front.value)) g h) k
+      let f = fraction_front text w n some_here digits_here within number_here scale p m point more o (omega arith) (omega arith) d s (sym e) in
+      told (dec_of scale) text p (signed_fit negative (times (Some m) (10 ^ missing))) answer h f.ends (f.reads ∙ ap (λ b. signed_fit b (times (Some m) (10 ^ (scale - (p - (w + 1)))))) (sym minus) ∙ ap (λ i. signed_fit negative (times (Some m) (10 ^ i))) (sym g))

@@ -183,5 +183,5 @@ front_then_point buffer old rest start point n scale front part f r p w =
     ∙ ap (λ m. (decimal m ++ point_text scale part) ++ rest) f
     ∙ ap (λ m. (decimal (n / 10 ^ scale) ++ point_text scale m) ++ rest) r
 
-pub minus_before : (buffer text : List ℕ) (start : ℕ) → 0 < start → start ≤ length buffer → drop start buffer ≡ text → drop (start - 1) (set buffer (start - 1) 45) ≡ 45 ∷ text
-minus_before buffer text start h k e = let i : start - 1 + 1 ≡ start = omega arith in drop-set buffer (start - 1) 45 (omega arith) ∙ ap (λ n. 45 ∷ drop n buffer) i ∙ ap (λ (t : List ℕ). 45 ∷ t) e
+pub byte_before : (buffer : List ℕ) (start byte : ℕ) → 0 < start → start ≤ length buffer → drop (start - 1) (set buffer (start - 1) byte) ≡ byte ∷ drop start buffer
+byte_before buffer start byte h k = let i : start - 1 + 1 ≡ start = omega arith in drop-set buffer (start - 1) byte (omega arith) ∙ ap (λ n. byte ∷ drop n buffer) i

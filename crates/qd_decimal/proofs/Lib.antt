@@ -4,6 +4,7 @@ pub mod AtFront
 pub mod Copies
 pub mod Ends
 pub mod Exactly
+pub mod FewDigits
 pub mod FixedDigits
 pub mod Formed
 pub mod Fractions

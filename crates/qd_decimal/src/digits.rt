@@ -55,6 +55,31 @@ pub(crate) fn start_of_run(number: u64, text: &[u8], from: usize, to: usize) -> 
     }
 }
 
+/// The digits from `from` on, up to `to` at most, behind those of `number`: so few that all of them fit.
+#[inline]
+#[tactic(auto, unfolding(crate::specs::Reading::digits_end))]
+pub(crate) fn short_run(number: u64, text: &[u8], from: usize, to: usize) -> Start
+    requires order { from ≤ to }
+    requires within { to ≤ length text.now }
+    requires few { (number + 1) * 10 ^ (to - from) ≤ 10 ^ 18 }
+    ensures number { with_digits (Some number) (slice_range text.now from result.end) ≡ Some result.number }
+    ensures forward { from ≤ result.end }
+    ensures within { result.end ≤ to }
+    ensures digits { result.end ≤ digits_end text.now from }
+    ensures few { (result.number + 1) * 10 ^ (to - result.end) ≤ 10 ^ 18 }
+{
+    let mut at = from;
+    let mut value = number;
+    while at < to && is_digit(text[at]) {
+        value = value * 10 + u64::from(text[at] - b'0');
+        at += 1;
+    }
+    Start {
+        end: at,
+        number: value,
+    }
+}
+
 /// The digits from `from` on, up to `to` at most, behind those of `number`, which may not fit.
 fn rest_of_run(number: Option<u64>, text: &[u8], from: usize, to: usize) -> Run
     requires order { from ≤ to }

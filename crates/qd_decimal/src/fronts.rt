@@ -1,17 +1,17 @@
-//! Short numbers at the front of a text, up to a TAB or to the end.
+//! The number at the front of a text, up to a TAB or to the end.
 //!
 //! Most numbers of a line are a few digits. They are read here in one pass over their bytes, without a search for the TAB
-//! before. Where that pass does not come to the end of the number there is no answer, and the number is to be cut out and
-//! read by [`read_dec`](crate::read_dec) or [`read_int`](crate::read_int), which know each fault.
+//! before: up to 18 digits fit in 64 bits, so no digit asks whether there is room for it. Where that pass does not come to
+//! the end of the number, the number is cut out and read by [`read_dec`] or [`read_int`], which know each fault.
 
-ghost use Rattle.std.specs.Prelude.{◌≡◌, ◌≤◌, ◌^◌, ◌==◌, not, length, take, IfSome, Ok, Some};
-ghost use Rattle.std.specs.List.{prefix_len};
-ghost use Rattle.qd_decimal.specs.Fronts.{ends_part};
+ghost use Rattle.std.specs.Prelude.{◌≡◌, ◌+◌, ◌≤◌, ◌^◌, length, Some};
+ghost use Rattle.qd_decimal.specs.Fronts.{ends_part, part_len, with_len, front_read};
 ghost use Rattle.qd_decimal.specs.Numbers.{signed_fit, times};
 ghost use Rattle.qd_decimal.specs.Reading.{dec_of, int_of};
 
-use crate::digits::{power_of_ten, start_of_run, times};
-use crate::reading::{has_minus, signed_fit};
+use crate::DecFault;
+use crate::digits::{power_of_ten, short_run, times};
+use crate::reading::{has_minus, read_dec, read_int, signed_fit};
 
 /// A number, and how many bytes its text has.
 #[derive(Clone, Copy, Debug, PartialEq, Eq)]
@@ -20,7 +20,11 @@ pub struct Front {
     pub len: usize,
 }
 
+/// So many digits always fit in 64 bits.
+const FEW: usize = 18;
+
 /// Whether the first part of a text ends at this place, if it goes so far.
+#[inline]
 fn ends_part(text: &[u8], at: usize) -> bool
     requires { at ≤ length text.now }
     ensures { result ≡ ends_part text.now at }
@@ -28,56 +32,103 @@ fn ends_part(text: &[u8], at: usize) -> bool
     at == text.len() || text[at] == b'\t'
 }
 
-/// The number of some digits, behind which `missing` zeros are left out.
-fn front_of(negative: bool, digits: u64, missing: u8, len: usize) -> Option<Front>
-    requires { missing ≤ 9 }
-    ensures value { IfSome result (λ front. signed_fit negative (times (Some digits) (10 ^ missing)) ≡ Ok front.value) }
-    ensures len { IfSome result (λ front. front.len ≡ len) }
+/// How many bytes the first part of a text has.
+fn part_len(text: &[u8]) -> usize
+    ensures len { result ≡ part_len text.now }
+    ensures within { result ≤ length text.now }
 {
-    match signed_fit(negative, times(Some(digits), power_of_ten(missing))) {
-        Ok(value) => Some(Front { value, len }),
-        Err(_) => None,
+    let mut at = 0;
+    while at < text.len() && text[at] != b'\t' {
+        at += 1;
+    }
+    at
+}
+
+#[inline]
+fn with_len(len: usize, read: Result<i64, DecFault>) -> Result<Front, DecFault>
+    ensures { result ≡ with_len len read }
+{
+    match read {
+        Ok(value) => Ok(Front { value, len }),
+        Err(fault) => Err(fault),
     }
 }
 
-/// The decimal number times 10 ^ `scale` that stands before the first TAB, where it has few digits, and none past the scale.
-pub fn front_dec(text: &[u8], scale: u8) -> Option<Front>
+/// The number of some digits, behind which `missing` zeros are left out, where 64 bits have it.
+#[inline]
+fn front_of(negative: bool, digits: u64, missing: u8, len: usize) -> Result<Front, DecFault>
+    requires { missing ≤ 9 }
+    ensures { result ≡ with_len len (signed_fit negative (times (Some digits) (10 ^ missing))) }
+{
+    with_len(
+        len,
+        signed_fit(negative, times(Some(digits), power_of_ten(missing))),
+    )
+}
+
+/// The decimal number that stands before the first TAB, cut out.
+#[inline(never)]
+fn cut_dec(text: &[u8], scale: u8) -> Result<Front, DecFault>
     requires scale { scale ≤ 9 }
-    ensures value { IfSome result (λ front. dec_of scale (take front.len text.now) ≡ Ok front.value) }
-    ensures part { IfSome result (λ front. front.len ≡ prefix_len (λ b. not (b == 9)) text.now) }
+    requires short { length text.now ≤ 4096 }
+    ensures { result ≡ front_read (dec_of scale) text.now }
+{
+    let len = part_len(text);
+    with_len(len, read_dec(&text[..len], scale))
+}
+
+/// The whole number that stands before the first TAB, cut out.
+#[inline(never)]
+fn cut_int(text: &[u8]) -> Result<Front, DecFault>
+    requires { length text.now ≤ 4096 }
+    ensures { result ≡ front_read int_of text.now }
+{
+    let len = part_len(text);
+    with_len(len, read_int(&text[..len]))
+}
+
+/// The decimal number times 10 ^ `scale` that stands before the first TAB, with its length, or its first fault.
+pub fn front_dec(text: &[u8], scale: u8) -> Result<Front, DecFault>
+    requires scale { scale ≤ 9 }
+    requires short { length text.now ≤ 4096 }
+    ensures { result ≡ front_read (dec_of scale) text.now }
 {
     let negative = has_minus(text);
     let start = usize::from(negative);
-    let whole = start_of_run(0, text, start, text.len());
+    let most = text.len().min(start + FEW);
+    let whole = short_run(0, text, start, most);
     if whole.end == start {
-        return None;
+        return cut_dec(text, scale);
     }
     if ends_part(text, whole.end) {
         return front_of(negative, whole.number, scale, whole.end);
     }
     if text[whole.end] != b'.' {
-        return None;
+        return cut_dec(text, scale);
     }
     let fraction = whole.end + 1;
-    let kept = (fraction + usize::from(scale)).min(text.len());
-    let part = start_of_run(whole.number, text, fraction, kept);
+    let kept = (fraction + usize::from(scale))
+        .min(text.len())
+        .min(most + 1);
+    let part = short_run(whole.number, text, fraction, kept);
     if !ends_part(text, part.end) {
-        return None;
+        return cut_dec(text, scale);
     }
     let missing = scale - (part.end - fraction) as u8;
     front_of(negative, part.number, missing, part.end)
 }
 
-/// The whole number that stands before the first TAB, where it has few digits.
-pub fn front_int(text: &[u8]) -> Option<Front>
-    ensures value { IfSome result (λ front. int_of (take front.len text.now) ≡ Ok front.value) }
-    ensures part { IfSome result (λ front. front.len ≡ prefix_len (λ b. not (b == 9)) text.now) }
+/// The whole number that stands before the first TAB, with its length, or its first fault.
+pub fn front_int(text: &[u8]) -> Result<Front, DecFault>
+    requires { length text.now ≤ 4096 }
+    ensures { result ≡ front_read int_of text.now }
 {
     let negative = has_minus(text);
     let start = usize::from(negative);
-    let whole = start_of_run(0, text, start, text.len());
+    let most = text.len().min(start + FEW);
+    let whole = short_run(0, text, start, most);
     if whole.end == start || !ends_part(text, whole.end) {
-        return None;
+        return cut_int(text);
     }
     front_of(negative, whole.number, 0, whole.end)
 }

@@ -24,4 +24,4 @@ pub use fronts::{Front, front_dec, front_int};
 pub use laws::{canonical, count_again, dec_again, different_texts, int_again, one_canonical};
 pub use line::Line;
 pub use reading::{read_count, read_dec, read_int};
-pub use writing::{write_count, write_dec};
+pub use writing::{write_count, write_count_part, write_dec, write_dec_part};

@@ -1,6 +1,6 @@
 //! Numbers are written from their last byte to the first, up to the middle of a small buffer.
 
-ghost use Rattle.std.specs.Prelude.{◌≡◌, ◌+◌, ◌%◌, ◌^◌, ◌<◌, ◌≤◌, ◌++◌, length, drop, nat_le, decimal, if◌then◌else◌};
+ghost use Rattle.std.specs.Prelude.{◌≡◌, ◌+◌, ◌%◌, ◌^◌, ◌<◌, ◌≤◌, ◌++◌, ◌∷◌, length, drop, nat_le, decimal, if◌then◌else◌};
 ghost use Rattle.qd_decimal.specs.Texts.{fraction_text, point_text, magnitude_text, dec_text};
 
 use crate::Line;
@@ -19,6 +19,31 @@ pub fn write_count(value: u64, out: &mut Line) -> bool
     let mut buffer = [0; 64];
     let start = write_digits(value, &mut buffer, MIDDLE);
     out.append_short(&buffer, start)
+}
+
+/// Appends a TAB and the canonical text of a count, unless there is too little room for both.
+#[tactic(auto, using(crate::proofs::Fractions::count_short, crate::proofs::Copies::short_room, crate::proofs::Copies::short_appended))]
+pub fn write_count_part(value: u64, out: &mut Line) -> bool
+    ensures room { result ≡ nat_le (length out.old + length (9 ∷ decimal value)) 4096 }
+    ensures appended { out.new ≡ (if result then out.old ++ 9 ∷ decimal value else out.old) }
+{
+    let mut buffer = [0; 64];
+    let digits = write_digits(value, &mut buffer, MIDDLE);
+    let start = put_before(b'\t', digits, &mut buffer);
+    out.append_short(&buffer, start)
+}
+
+/// Writes a byte before what stands in a buffer. Tells where it stands.
+#[inline]
+#[tactic(auto, using(crate::proofs::FixedDigits::byte_before))]
+fn put_before(byte: u8, start: usize, buffer: &mut [u8; 64]) -> usize
+    requires some { 0 < start }
+    requires within { start ≤ 32 }
+    ensures text { drop result buffer.new ≡ byte ∷ drop start buffer.old }
+    ensures before { result + 1 ≡ start }
+{
+    buffer[start - 1] = byte;
+    start - 1
 }
 
 /// The digits behind a point, as a number of so many digits.
@@ -83,18 +108,18 @@ fn write_magnitude(n: u64, scale: u8, buffer: &mut [u8; 64]) -> usize
 }
 
 /// Writes the canonical text of a number up to the middle of a buffer. Tells where it begins.
-#[tactic(auto, using(crate::proofs::FixedDigits::minus_before), unfolding(crate::specs::Texts::dec_text))]
+#[tactic(auto, unfolding(crate::specs::Texts::dec_text))]
 fn write_text(value: i64, scale: u8, buffer: &mut [u8; 64]) -> usize
     requires { scale ≤ 9 }
     ensures text { drop result buffer.new ≡ dec_text scale value ++ drop 32 buffer.old }
     ensures within { result ≤ 32 }
+    ensures room { 1 ≤ result }
 {
     let start = write_magnitude(value.unsigned_abs(), scale, buffer);
     if value >= 0 {
         return start;
     }
-    buffer[start - 1] = b'-';
-    start - 1
+    put_before(b'-', start, buffer)
 }
 
 /// Appends the canonical text of a decimal number, unless there is too little room.
@@ -106,5 +131,18 @@ pub fn write_dec(value: i64, scale: u8, out: &mut Line) -> bool
 {
     let mut buffer = [0; 64];
     let start = write_text(value, scale, &mut buffer);
+    out.append_short(&buffer, start)
+}
+
+/// Appends a TAB and the canonical text of a decimal number, unless there is too little room for both.
+#[tactic(auto, using(crate::proofs::Copies::short_room, crate::proofs::Copies::short_appended))]
+pub fn write_dec_part(value: i64, scale: u8, out: &mut Line) -> bool
+    requires { scale ≤ 9 }
+    ensures room { result ≡ nat_le (length out.old + length (9 ∷ dec_text scale value)) 4096 }
+    ensures appended { out.new ≡ (if result then out.old ++ 9 ∷ dec_text scale value else out.old) }
+{
+    let mut buffer = [0; 64];
+    let text = write_text(value, scale, &mut buffer);
+    let start = put_before(b'\t', text, &mut buffer);
     out.append_short(&buffer, start)
 }
