@@ -2,12 +2,13 @@
 
 ghost use Rattle.std.specs.Prelude.{◌≡◌, ◌≤◌, ◌<◌, ◌+◌, ◌||◌, not, length, [], Ok, IfOk, IfSome, IsTrue, All, Some, slice_get};
 ghost use Rattle.qd_scheme.specs.Faults.{has_scale};
+ghost use Rattle.qd_grammar.specs.declared.item.Item.TheVariants.{Rec, Ev};
 ghost use Rattle.qd_grammar.specs.Fields.{cells_at, hist_at, record_at};
 ghost use Rattle.qd_grammar.specs.Body.{kinds_of, kinds_at, key_at, record_line, event_line, sub_line, hist_sub_line, lost_line, message_line, body_line};
 ghost use Rattle.qd_text.specs.Cursor.{left, seen, seen_with, put_aside};
 
 use crate::cursor::{ends_part, fault_at, line_end, part_end};
-use crate::fields::{cell_at, count_at, flags_at, loss_at, short_cell_at, symbol_at};
+use crate::fields::{cell_at, count_at, flags_at, loss_at, symbol_at, symbol_into};
 use qd_grammar::{Fault, Item, Message, State, Why};
 use qd_scheme::{Cells, Event, FieldDef, Key, Record, RecordDef, Scheme};
 use qd_sub::Sub;
@@ -42,10 +43,7 @@ fn cells_at(line: &[u8], at: usize, fields: &[FieldDef], cells: &mut Cells) -> R
 {
     let mut next = at;
     for field in fields {
-        let (cell, after) = match short_cell_at(line, next, field.kind) {
-            Some(cell) => (cell.value, cell.next),
-            None => cell_at(line, next, field.kind)?,
-        };
+        let (cell, after) = cell_at(line, next, field.kind)?;
         cells.push(cell);
         next = after;
     }
@@ -129,6 +127,20 @@ fn key_at(line: &[u8], scheme: &Scheme, hist: bool, near: u32) -> Result<(Key, u
     Ok((Key { rec, sym }, next))
 }
 
+/// The same in place of another key, whose record is the one to look at first.
+#[tactic(auto, unfolding(qd_grammar::specs::Body::key_at))]
+fn key_into(line: &[u8], scheme: &Scheme, hist: bool, key: &mut Key) -> Result<usize, Fault>
+    requires short { length line.now ≤ 4096 }
+    ensures read { seen_with line.now key.new result ≡ key_at hist scheme.now (length line.now + 1) (left line.now 0) }
+    ensures order { IfOk result (λ next. next ≤ length line.now + 1) }
+    ensures found { IfOk result (λ _. key.new.rec < length scheme.now) }
+{
+    let (rec, next) = record_at(line, scheme, hist, key.rec)?;
+    key.rec = rec;
+    let next = symbol_into(line, next, &mut key.sym)?;
+    Ok(next)
+}
+
 /// The cells of a record's fields.
 #[tactic(auto, using(crate::proofs::Cells::kinds_there))]
 fn cells_of(
@@ -148,16 +160,14 @@ fn cells_of(
     cells_at(line, at, def_of(scheme, rec).fields.as_slice(), cells)
 }
 
+/// A record.
+#[inline(never)]
 #[tactic(auto, unfolding(qd_grammar::specs::Body::record_line))]
-fn record_line(line: &[u8], scheme: &Scheme, out: &mut Item) -> Result<(), Fault>
+fn first_record(line: &[u8], scheme: &Scheme, out: &mut Item) -> Result<(), Fault>
     requires { length line.now ≤ 4096 }
     ensures { put_aside result out.new ≡ record_line scheme.now (length line.now + 1) (left line.now 0) }
 {
-    let near = match out {
-        Item::Rec(record) => record.key.rec,
-        _ => 0,
-    };
-    let (key, next) = key_at(line, scheme, false, near)?;
+    let (key, next) = key_at(line, scheme, false, 0)?;
     let mut cells = Cells::new();
     let next = cells_of(line, next, scheme, key.rec, &mut cells)?;
     line_end(line, next)?;
@@ -165,17 +175,37 @@ fn record_line(line: &[u8], scheme: &Scheme, out: &mut Item) -> Result<(), Fault
     Ok(())
 }
 
+/// A record in place of another one: most records follow one, and none of its large values is handed on.
+#[tactic(auto, unfolding(qd_grammar::specs::Body::record_line))]
+fn next_record(line: &[u8], scheme: &Scheme, last: &mut Record) -> Result<(), Fault>
+    requires { length line.now ≤ 4096 }
+    ensures { put_aside result (Rec last.new) ≡ record_line scheme.now (length line.now + 1) (left line.now 0) }
+{
+    let next = key_into(line, scheme, false, &mut last.key)?;
+    last.cells = Cells::new();
+    let next = cells_of(line, next, scheme, last.key.rec, &mut last.cells)?;
+    line_end(line, next)?;
+    Ok(())
+}
+
+fn record_line(line: &[u8], scheme: &Scheme, out: &mut Item) -> Result<(), Fault>
+    requires { length line.now ≤ 4096 }
+    ensures { put_aside result out.new ≡ record_line scheme.now (length line.now + 1) (left line.now 0) }
+{
+    match out {
+        Item::Rec(last) => next_record(line, scheme, last),
+        _ => first_record(line, scheme, out),
+    }
+}
+
+/// An event.
 #[inline(never)]
 #[tactic(auto, unfolding(qd_grammar::specs::Body::event_line))]
-fn event_line(line: &[u8], scheme: &Scheme, out: &mut Item) -> Result<(), Fault>
+fn first_event(line: &[u8], scheme: &Scheme, out: &mut Item) -> Result<(), Fault>
     requires { length line.now ≤ 4096 }
     ensures { put_aside result out.new ≡ event_line scheme.now (length line.now + 1) (left line.now 0) }
 {
-    let near = match out {
-        Item::Ev(event) => event.key.rec,
-        _ => 0,
-    };
-    let (key, next) = key_at(line, scheme, true, near)?;
+    let (key, next) = key_at(line, scheme, true, 0)?;
     let (index, next) = count_at(line, next, MOST)?;
     let (flags, next) = flags_at(line, next)?;
     let mut cells = Cells::new();
@@ -188,6 +218,34 @@ fn event_line(line: &[u8], scheme: &Scheme, out: &mut Item) -> Result<(), Fault>
         cells,
     });
     Ok(())
+}
+
+/// An event in place of another one.
+#[tactic(auto, unfolding(qd_grammar::specs::Body::event_line))]
+fn next_event(line: &[u8], scheme: &Scheme, last: &mut Event) -> Result<(), Fault>
+    requires { length line.now ≤ 4096 }
+    ensures { put_aside result (Ev last.new) ≡ event_line scheme.now (length line.now + 1) (left line.now 0) }
+{
+    let next = key_into(line, scheme, true, &mut last.key)?;
+    let (index, next) = count_at(line, next, MOST)?;
+    let (flags, next) = flags_at(line, next)?;
+    last.index = index;
+    last.flags = flags;
+    last.cells = Cells::new();
+    let next = cells_of(line, next, scheme, last.key.rec, &mut last.cells)?;
+    line_end(line, next)?;
+    Ok(())
+}
+
+#[inline(never)]
+fn event_line(line: &[u8], scheme: &Scheme, out: &mut Item) -> Result<(), Fault>
+    requires { length line.now ≤ 4096 }
+    ensures { put_aside result out.new ≡ event_line scheme.now (length line.now + 1) (left line.now 0) }
+{
+    match out {
+        Item::Ev(last) => next_event(line, scheme, last),
+        _ => first_event(line, scheme, out),
+    }
 }
 
 #[inline(never)]

@@ -1,15 +1,16 @@
 //! What one part of a line says.
 
-ghost use Rattle.std.specs.Prelude.{◌≡◌, ◌≤◌, ◌<◌, ◌+◌, ◌^◌, ◌-◌, ◌==◌, not, length, take, Ok, IfOk, IfErr, IfSome, IsTrue};
-ghost use Rattle.std.specs.List.{prefix_len};
+ghost use Rattle.std.specs.Prelude.{◌≡◌, ◌≤◌, ◌<◌, ◌+◌, ◌^◌, ◌-◌, length, IfOk, IfErr, IsTrue};
 ghost use Rattle.qd_scheme.specs.Faults.{has_scale};
+ghost use Rattle.qd_decimal.specs.Fronts.{front_read};
 ghost use Rattle.qd_decimal.specs.Reading.{count_of};
+ghost use Rattle.qd_grammar.specs.declared.fault.Why.TheVariants.{Number};
 ghost use Rattle.qd_grammar.specs.Fields.{symbol_told, told_at, fault_place, number_of_kind, count_at, symbol_at, cell_at, flags_at, loss_at};
-ghost use Rattle.qd_text.specs.Cursor.{left, seen};
+ghost use Rattle.qd_text.specs.Cursor.{left, seen, seen_with};
 ghost use Rattle.qd_text.specs.Near.{IsNear};
 
 use crate::cursor::{fault_at, part_end};
-use qd_decimal::{DecFault, Front, front_dec, front_int, read_count, read_dec, read_int};
+use qd_decimal::{DecFault, Front, front_dec, front_int, read_count};
 use qd_grammar::{Fault, Why};
 use qd_scheme::{FieldKind, Sym};
 
@@ -26,6 +27,18 @@ fn fault_place(at: usize, why: DecFault) -> u32
     }
 }
 
+/// The fault of the number of the part that begins at `at`.
+fn number_fault(at: usize, why: DecFault) -> Fault
+    requires short { at ≤ 4096 }
+    requires near { IsNear why }
+    ensures { result ≡ record { place = fault_place (at + 1) why; why = Number why } }
+{
+    Fault {
+        place: fault_place(at, why),
+        why: Why::Number(why),
+    }
+}
+
 /// What the number of the part that begins at `at` says.
 fn told_at<T: Drop>(at: usize, read: Result<T, DecFault>) -> Result<T, Fault>
     requires short { at ≤ 4096 }
@@ -34,10 +47,7 @@ fn told_at<T: Drop>(at: usize, read: Result<T, DecFault>) -> Result<T, Fault>
 {
     match read {
         Ok(value) => Ok(value),
-        Err(why) => Err(Fault {
-            place: fault_place(at, why),
-            why: Why::Number(why),
-        }),
+        Err(why) => Err(number_fault(at, why)),
     }
 }
 
@@ -64,46 +74,11 @@ pub fn count_at(line: &[u8], at: usize, most: u64) -> Result<(u64, usize), Fault
     Ok((n, to + 1))
 }
 
-#[tactic(auto, using(crate::proofs::Near::near_whole, crate::proofs::Near::near_decimal))]
-fn number_of_kind(kind: FieldKind, text: &[u8]) -> Result<i64, DecFault>
+/// The number at the front of a text, as a field's kind asks.
+fn front_of_kind(kind: FieldKind, text: &[u8]) -> Result<Front, DecFault>
     requires scaled { IsTrue (has_scale kind) }
     requires short { length text.now ≤ 4096 }
-    ensures value { result ≡ number_of_kind kind text.now }
-    ensures near { IfErr result IsNear }
-{
-    match kind {
-        FieldKind::Int => read_int(text),
-        FieldKind::Dec(scale) => read_dec(text, scale),
-    }
-}
-
-/// A field's cell.
-#[inline(never)]
-#[tactic(auto, unfolding(qd_grammar::specs::Fields::cell_at))]
-pub fn cell_at(line: &[u8], at: usize, kind: FieldKind) -> Result<(i64, usize), Fault>
-    requires scaled { IsTrue (has_scale kind) }
-    requires short { length line.now ≤ 4096 }
-    requires within { at ≤ length line.now + 1 }
-    ensures read { seen line.now (λ z. z) result ≡ cell_at kind (length line.now + 1) (left line.now at) }
-    ensures order { IfOk result (λ read. read.1 ≤ length line.now + 1) }
-{
-    let to = part_end(line, at)?;
-    let cell = told_at(at, number_of_kind(kind, &line[at..to]))?;
-    Ok((cell, to + 1))
-}
-
-/// A cell, and where the parts behind it begin.
-#[derive(Clone, Copy)]
-pub struct Cell {
-    pub value: i64,
-    pub next: usize,
-}
-
-/// The number at the front of a text, where one pass tells it.
-fn front_of_kind(kind: FieldKind, text: &[u8]) -> Option<Front>
-    requires scaled { IsTrue (has_scale kind) }
-    ensures value { IfSome result (λ front. number_of_kind kind (take front.len text.now) ≡ Ok front.value) }
-    ensures part { IfSome result (λ front. front.len ≡ prefix_len (λ b. not (b == 9)) text.now) }
+    ensures { result ≡ front_read (number_of_kind kind) text.now }
 {
     match kind {
         FieldKind::Int => front_int(text),
@@ -111,23 +86,21 @@ fn front_of_kind(kind: FieldKind, text: &[u8]) -> Option<Front>
     }
 }
 
-/// A field's cell, where one pass over its bytes tells it.
-#[tactic(auto, using(crate::proofs::ShortCells::short_cell, crate::proofs::ShortCells::short_within))]
-pub fn short_cell_at(line: &[u8], at: usize, kind: FieldKind) -> Option<Cell>
+/// A field's cell, in one pass over its bytes.
+#[tactic(auto, using(crate::proofs::FrontCells::front_cell, crate::proofs::FrontCells::front_within, crate::proofs::FrontCells::front_fault, crate::proofs::FrontCells::front_near, crate::proofs::FrontCells::no_cell))]
+pub fn cell_at(line: &[u8], at: usize, kind: FieldKind) -> Result<(i64, usize), Fault>
     requires scaled { IsTrue (has_scale kind) }
+    requires short { length line.now ≤ 4096 }
     requires within { at ≤ length line.now + 1 }
-    ensures read { IfSome result (λ cell. Ok (cell.value, left line.now cell.next) ≡ cell_at kind (length line.now + 1) (left line.now at)) }
-    ensures order { IfSome result (λ cell. cell.next ≤ length line.now + 1) }
+    ensures read { seen line.now (λ z. z) result ≡ cell_at kind (length line.now + 1) (left line.now at) }
+    ensures order { IfOk result (λ read. read.1 ≤ length line.now + 1) }
 {
     if at > line.len() {
-        return None;
+        return Err(fault_at(line.len(), Why::Form));
     }
     match front_of_kind(kind, &line[at..]) {
-        Some(front) => Some(Cell {
-            value: front.value,
-            next: at + front.len + 1,
-        }),
-        None => None,
+        Ok(front) => Ok((front.value, at + front.len + 1)),
+        Err(why) => Err(number_fault(at, why)),
     }
 }
 
@@ -155,6 +128,19 @@ pub fn symbol_at(line: &[u8], at: usize) -> Result<(Sym, usize), Fault>
     let to = part_end(line, at)?;
     let symbol = symbol_told(at, &line[at..to])?;
     Ok((symbol, to + 1))
+}
+
+/// The same in place of another symbol.
+#[tactic(auto, unfolding(qd_grammar::specs::Fields::symbol_at))]
+pub fn symbol_into(line: &[u8], at: usize, symbol: &mut Sym) -> Result<usize, Fault>
+    requires short { length line.now ≤ 4096 }
+    requires within { at ≤ length line.now + 1 }
+    ensures read { seen_with line.now symbol.new result ≡ symbol_at (length line.now + 1) (left line.now at) }
+    ensures order { IfOk result (λ next. next ≤ length line.now + 1) }
+{
+    let to = part_end(line, at)?;
+    *symbol = symbol_told(at, &line[at..to])?;
+    Ok(to + 1)
 }
 
 /// Flags, of which 0x20 and 0x80 are none.

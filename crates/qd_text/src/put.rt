@@ -6,7 +6,7 @@ ghost use Rattle.qd_scheme.specs.Faults.{has_scale};
 ghost use Rattle.qd_grammar.specs.Body.{kinds_of};
 ghost use Rattle.qd_grammar.specs.Canonical.{behind, joined, name_at, cell_text, cell_texts, key_texts};
 
-use qd_decimal::{Line, write_count, write_dec};
+use qd_decimal::{Line, write_count, write_count_part, write_dec_part};
 use qd_scheme::{FieldDef, FieldKind, Key, Scheme};
 
 /// Appends bytes.
@@ -49,36 +49,24 @@ pub fn put_digits(n: u64, out: &mut Line)
 }
 
 /// Appends a TAB and a count.
-#[tactic(auto, using(crate::proofs::Joins::byte_then))]
+#[tactic(auto, using(crate::proofs::Lengths::count_short))]
 pub fn put_count(n: u64, out: &mut Line)
     requires { length out.old ≤ 4075 }
     ensures part { out.new ≡ out.old ++ 9 ∷ decimal n }
     ensures short { length out.new ≤ length out.old + 21 }
 {
-    put_tab(out);
-    put_digits(n, out);
-}
-
-#[tactic(auto, using(crate::proofs::Lengths::text_short))]
-fn put_decimal(value: i64, scale: u8, out: &mut Line)
-    requires scaled { scale ≤ 9 }
-    requires room { length out.old ≤ 4065 }
-    ensures text { out.new ≡ out.old ++ dec_text scale value }
-    ensures short { length out.new ≤ length out.old + 31 }
-{
-    let _ = write_dec(value, scale, out);
+    let _ = write_count_part(n, out);
 }
 
 /// Appends a TAB and a decimal number.
-#[tactic(auto, using(crate::proofs::Joins::byte_then))]
+#[tactic(auto, using(crate::proofs::Lengths::text_short))]
 fn put_dec(value: i64, scale: u8, out: &mut Line)
     requires scaled { scale ≤ 9 }
     requires room { length out.old ≤ 4060 }
     ensures part { out.new ≡ out.old ++ 9 ∷ dec_text scale value }
     ensures short { length out.new ≤ length out.old + 32 }
 {
-    put_tab(out);
-    put_decimal(value, scale, out);
+    let _ = write_dec_part(value, scale, out);
 }
 
 /// Appends a TAB and a field's cell.
