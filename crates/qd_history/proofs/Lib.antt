@@ -1,3 +1,4 @@
+pub mod Sending
 pub mod OwedLaws
 pub mod StepLaws
 pub mod EachSide

@@ -8,6 +8,7 @@
 //! has of it in `sides`. `rooms` makes room for the events of a Put before anything changes.
 #![tactic(auto)]
 
+mod crossing;
 mod rooms;
 mod sides;
 mod stripe;
@@ -15,3 +16,6 @@ mod tracks;
 
 pub use qd_hist_rules::{HistItem, HistoryReply};
 pub use stripe::HistoryStripe;
+
+#[cfg(test)]
+mod tests;
