@@ -1,0 +1,4 @@
+pub mod Making
+pub mod Turning
+pub mod Owning
+pub mod Sending

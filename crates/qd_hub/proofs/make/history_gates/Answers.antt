@@ -1,0 +1,25 @@
+use denote.Param.Send.{sendable}
+use Rattle.std.proofs.Common.{◌≡◌, refl, ap, arith}
+use Rattle.qd_history.proofs.Sending.{stripe_send}
+use Rattle.qd_hist_stand.specs.Stripes.{Shown, Stands, terms_in}
+use Rattle.qd_hist_rules.specs.Legal.{terms_of}
+use Rattle.qd_hub.proofs.Making.{none_first, one_more_first, as_many_first}
+use Rattle.qd_hub.proofs.make.history_gates.Goals as goal
+
+pub empty-row-requires-send-M : goal.empty-row-requires-send-M
+empty-row-requires-send-M c κs = search (sendable, stripe_send) depth 20
+
+pub add-requires-send-M : goal.add-requires-send-M
+add-requires-send-M c κs = search (sendable, stripe_send) depth 20
+
+pub loop-stripe-init : goal.loop-stripe-init
+loop-stripe-init c = none_first (terms_of c.args.hcap 0) c.empty-row.result.0 c.empty-row.result.1 c.empty-row.ensures.gates c.empty-row.ensures.passes
+
+pub add-requires-clause-home : goal.add-requires-clause-home
+add-requires-clause-home c κs = c.loop-stripe.invariant.of_gates
+
+pub loop-stripe-preserved : goal.loop-stripe-preserved
+loop-stripe-preserved c = one_more_first c.loop-stripe._stripe (terms_of c.args.hcap 0) (terms_in c.in_ok-new.field-0) c.loop-stripe.row c.add.new.self c.loop-stripe.passes c.add.new.passes c.loop-stripe.invariant c.in_ok-add.ensures.home c.in_ok-add.ensures.added c.in_ok-new.ensures.terms
+
+pub returns : goal.returns
+returns c = as_many_first c.loop-stripe._stripe c.args.stripes (terms_of c.args.hcap 0) c.loop-stripe.row c.loop-stripe.passes c.loop-stripe.invariant (let a = c.loop-stripe-test.false in let b = c.loop-stripe.auto._stripe-end in omega arith)

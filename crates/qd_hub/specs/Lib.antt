@@ -1,0 +1,4 @@
+pub mod Configs
+pub mod Hubs
+pub mod Owns
+pub mod Clients
