@@ -1,21 +1,56 @@
 //! `qds`: checks, formats and replays texts of market data.
 #![tactic(auto)]
 
+ghost use Rattle.std.specs.Prelude.{◌≡◌};
+ghost use Rattle.std.specs.Process.{exit_status};
+
+use qd_items::RunEnd;
 use qd_outside::{Reading, RealFiles, Writing};
-use qds_tools::plain_main;
+use qds_tools::{ProgramEnd, Status, plain_main, report};
 use std::process::ExitCode;
 use std::{env, io};
 
-fn main(rt: HostRuntime) -> Result<ExitCode, io::Error> {
-    let alloc = rt.alloc();
-    let mut words = Vec::new(alloc);
-    for word in env::args(&rt)?.skip(1) {
-        words.push(word)?;
-    }
-    let mut files = RealFiles::new(&rt);
-    let mut input = Reading::new(rt.stdin());
+fn main(rt: HostRuntime) -> ExitCode {
     let mut out = Writing::new(rt.stdout());
     let mut err = Writing::new(rt.stderr());
-    let status = plain_main(alloc, &words, &mut files, &mut input, &mut out, &mut err);
-    Ok(ExitCode::from(status.get()))
+    let status = match words(&rt) {
+        Ok(words) => {
+            let mut files = RealFiles::new(&rt);
+            let mut input = Reading::new(rt.stdin());
+            plain_main(
+                rt.alloc(),
+                &words,
+                &mut files,
+                &mut input,
+                &mut out,
+                &mut err,
+            )
+        }
+        Err(why) => report(end_without_words(why), &mut err),
+    };
+    code_of(&status)
+}
+
+// The words behind the program's name.
+fn words(rt: &HostRuntime) -> Result<Vec<String>, io::Error> {
+    let mut words = Vec::new(rt.alloc());
+    for word in env::args(rt)?.skip(1) {
+        words.push(word)?;
+    }
+    Ok(words)
+}
+
+// A word that is no UTF-8 asks for nothing.
+fn end_without_words(why: io::Error) -> ProgramEnd {
+    match why.kind() {
+        io::ErrorKind::OutOfMemory => ProgramEnd::Ran(RunEnd::NoMemory),
+        _ => ProgramEnd::Usage,
+    }
+}
+
+// The status of the process is that of the run.
+fn code_of(status: &Status) -> ExitCode
+    ensures { exit_status result ≡ status.now }
+{
+    ExitCode::from(status.get())
 }

@@ -58,8 +58,9 @@ pub fn plain_main<F: Files, S: Source, K: Sink, E: Sink>(
     }
 }
 
-/// Tells how the program ended. A failure to write the line changes nothing.
-fn report<E: Sink>(end: ProgramEnd, err: &mut E) -> Status
+/// Tells how the program ended, where a line belongs to the end, and gives its status. A failure to write the line changes
+/// nothing.
+pub fn report<E: Sink>(end: ProgramEnd, err: &mut E) -> Status
     ensures { Reports end result (E.written err.old) (E.written err.new) (E.faults err.old) (E.faults err.new) }
 {
     let _ = write_fault(err, end);
