@@ -1,6 +1,5 @@
 -- What holds of each pass, where the view of one of them changes.
 use Rattle.std.proofs.Common.{◌≡◌, ◌≢◌, ℕ, ◌≤◌, List, [], ◌∷◌, ◌++◌, set, sym, ap, ◌∙◌, subst, ⊎_elim, arith}
-use Rattle.std.specs.Prelude.{All}
 use Rattle.std.proofs.lemmas.List.Elements.{All-weaker}
 use mathlib.Core.Option.{Option, some, some-injective}
 use mathlib.Core.List.{IsPrefix}
@@ -45,9 +44,10 @@ module _ {O R : Type 0} where
   stage_stays word word' turn turn' log log' j u InTurn apart k = absurd (apart k.1)
   stage_stays word word' turn turn' log log' j u (Joined own others other calls) apart k = k
 
-  pub knows_still : (terms : Terms) (legal : List (Entry O R) → Type 0) (word word' : ℕ) (turn turn' : Option ℕ) (log log' : List (Entry O R)) (j : ℕ) (u : Known O R) → word ≤ word' → IsPrefix log log' → calls_of j log' ≡ calls_of j log → (turn ≡ some j → ⊥)
-      → Knows word turn log j u terms legal → Knows word' turn' log' j u terms legal
-  knows_still terms legal word word' turn turn' log log' j u le more same apart k = record {
+  pub knows_still : (start : ℕ) (terms : Terms) (legal : List (Entry O R) → Type 0) (word word' : ℕ) (turn turn' : Option ℕ) (log log' : List (Entry O R)) (j : ℕ) (u : Known O R) → word ≤ word' → IsPrefix log log' → calls_of j log' ≡ calls_of j log → (turn ≡ some j → ⊥)
+      → Knows word turn log j u start terms legal → Knows word' turn' log' j u start terms legal
+  knows_still start terms legal word word' turn turn' log log' j u le more same apart k = record {
+    same_start = k.same_start;
     same_terms = k.same_terms;
     begins = prefix_trans u.seen log log' k.begins more;
     legal_seen = k.legal_seen;

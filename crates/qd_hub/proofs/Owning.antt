@@ -59,6 +59,7 @@ module _ {S O R : Type 0} where
             is_legal = ok;
             small = subst (λ (l : List ℕ). All (λ n. n < 2 ^ 63) l) (sym own.looked) (λ _ _ none. absurd (omega arith));
           },
+          refl,
         ),
       )
 

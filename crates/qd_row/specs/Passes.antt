@@ -7,9 +7,10 @@ use Rattle.qd_gate.specs.Logs.{calls_of}
 use Rattle.qd_gate.specs.Passes.{Pass, IsSamePass}
 
 module _ {O R : Type 0} where
-  -- the first pass of a gate with these terms: it has seen nothing and made no call
+  -- the first pass of a gate with these terms, whose word began at 0: it has seen nothing and made no call
   pub record IsFirst (terms : Terms) (p : Pass O R) : Type 0 where
     pub terms_are : p.terms ≡ terms
+    pub start : p.start ≡ 0
     pub number : p.number ≡ 0
     pub seen : p.seen ≡ []
     pub mine : p.mine ≡ []
@@ -19,6 +20,7 @@ module _ {O R : Type 0} where
   pub record IsChild (p q : Pass O R) : Type 0 where
     pub home : q.home ≡ p.home
     pub terms : q.terms ≡ p.terms
+    pub start : q.start ≡ p.start
     pub number : q.number ≢ p.number
     pub seen : q.seen ≡ p.seen
     pub mine : q.mine ≡ []
@@ -27,6 +29,7 @@ module _ {O R : Type 0} where
   -- q is p, which took in w: the log that is then seen is legal, begins with all that either had seen, and has the calls of both, each once
   pub record IsUnion (legal : Terms → List (Entry O R) → Type 0) (p w q : Pass O R) : Type 0 where
     pub same : IsSamePass p q
+    pub start : q.start ≡ p.start
     pub begins : IsPrefix p.seen q.seen
     pub begins_too : IsPrefix w.seen q.seen
     pub is_legal : legal q.terms q.seen

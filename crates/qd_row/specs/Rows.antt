@@ -19,9 +19,9 @@ module _ {O R : Type 0} where
     pub after_is : after ≡ before ++ p ∷ []
     pub first : IsFirst terms p
 
-  -- what one call does to the pass of its stripe: it stays the pass that it is, and was answered or refused with its reason
+  -- what one call does to the pass of its stripe: it stays the pass that it is, of a gate that began where it did, and was answered or refused with its reason
   abbrev pub Turns : (Terms → List (Entry O R) → Type 0) → Pass O R → O → Result R (NoTurn O) → Pass O R → Type 0
-  Turns legal p op result q = IsSamePass p q × MatchResult result (λ reply. Answers legal p op reply q) (λ why. Refuses p op why q)
+  Turns legal p op result q = IsSamePass p q × MatchResult result (λ reply. Answers legal p op reply q) (λ why. Refuses legal p op why q) × (q.start ≡ p.start)
 
   -- the call changed the pass of its stripe and no other
   pub record TurnsAt (legal : Terms → List (Entry O R) → Type 0) (before : List (Pass O R)) (stripe : ℕ) (op : O) (result : Result R (NoTurn O)) (after : List (Pass O R)) : Type 0 where

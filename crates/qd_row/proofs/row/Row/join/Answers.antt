@@ -27,6 +27,7 @@ loop-pass-preserved g c =
     c.loop-pass.invariant c.in-Some.ensures.items at size c.index_mut.ensures.value
     (record {
       same = c.join.ensures.pass;
+      start = c.join.ensures.start;
       begins = c.join.ensures.seen.0;
       begins_too = c.join.ensures.seen.1;
       is_legal = c.join.ensures.seen.2;
