@@ -1,8 +1,8 @@
 -- The orders fit the holds after each change.
-use Rattle.std.proofs.Common.{◌≡◌, ◌≢◌, ◌⊎◌, inl, inr, ℕ, zero, suc, ◌+◌, ◌-◌, ◌<◌, ◌≤◌, Bool, true, false, ◌||◌, nat_eq, if◌then◌else◌, Option, Some, None, Result, Ok, Err, OnErr, List, [], ◌∷◌, ◌++◌, length, min, max, replicate, append_assoc, add-one, drop, slice_set, slice_index, slice_index_or, get_or-set_other, get_or-set_same, refl, ap, sym, ◌∙◌, arith, subst}
+use Rattle.std.proofs.Common.{◌≡◌, ◌≢◌, inl, inr, ℕ, zero, suc, ◌+◌, ◌-◌, ◌<◌, ◌≤◌, Bool, true, false, ◌||◌, nat_eq, if◌then◌else◌, Option, Some, None, Result, Ok, Err, OnErr, List, [], ◌∷◌, ◌++◌, length, min, replicate, append_assoc, add-one, drop, slice_set, slice_index, slice_index_or, get_or-set_other, get_or-set_same, refl, ap, sym, ◌∙◌, arith, subst}
 use Rattle.std.proofs.lemmas.List.{length-set, length-append, append-nil, get_or_append_left, get_or-append_right, get_or_past}
 use Rattle.std.specs.declared.alloc.AllocError.{AllocError}
-use Rattle.qd_pend.specs.Slots.{SlotList, has, without}
+use Rattle.qd_pend.specs.Slots.{SlotList, has}
 use Rattle.qd_pend.proofs.ListLaws.{same, equal, has-push, has-without, has-without_same}
 use Rattle.qd_slots.specs.declared.holds.Hold.{Hold}
 use Rattle.qd_slots.specs.declared.holds.Hold.TheVariants.{Free, Kept, Subscribed}

@@ -1,5 +1,5 @@
 -- The map of slots, the names and the free slots fit together after each call.
-use Rattle.std.proofs.Common.{◌≡◌, ◌≢◌, ◌⊎◌, inl, inr, ℕ, zero, suc, ◌+◌, ◌-◌, ◌^◌, ◌<◌, ◌≤◌, Bool, true, false, nat_eq, ◌||◌, if◌then◌else◌, Option, Some, None, List, [], ◌∷◌, ◌++◌, length, max, slice_set, append_assoc, refl, ap, sym, ◌∙◌, arith, subst}
+use Rattle.std.proofs.Common.{◌≡◌, ◌≢◌, inl, inr, ℕ, ◌+◌, ◌-◌, ◌^◌, ◌<◌, ◌≤◌, Bool, true, false, nat_eq, ◌||◌, if◌then◌else◌, Option, Some, None, List, [], ◌∷◌, ◌++◌, length, max, slice_set, append_assoc, refl, ap, sym, ◌∙◌, arith, subst}
 use Rattle.std.proofs.lemmas.List.{length-set, get_or_past, length-append, append-nil}
 use Rattle.std.specs.declared.hash.FoldHasher.{FoldHasher}
 use Rattle.std.specs.declared.hash.BuildHasherDefault.{BuildHasherDefault}
@@ -7,12 +7,12 @@ use Rattle.indexmap.specs.IndexMap.{IndexMap, get, spare}
 use Rattle.std.specs.Map.{lookup}
 use Rattle.qd_scheme.specs.declared.key.Key.{Key}
 use Rattle.qd_scheme.specs.Keys.{key_eq}
-use Rattle.qd_scheme.proofs.KeyLaws.{key_eq-same, key_eq-true, key_eq-comm}
+use Rattle.qd_scheme.proofs.KeyLaws.{key_eq-true, key_eq-comm}
 use Rattle.qd_pend.specs.Slots.{SlotList, has, first_in, rest_of, EachOnce}
 use Rattle.qd_pend.proofs.ListLaws.{same, equal, has-here, has-later, has-push, has-apart, EachOnce-push}
-use Rattle.qd_slots.specs.Names.{is_name, slot_from, slot_in, name_at, nones, IsFound, IsVacant, IsGrown, IsReady}
+use Rattle.qd_slots.specs.Names.{is_name, slot_from, slot_in, name_at, named_in, nones, IsFound, IsVacant, IsGrown, IsReady}
 use Rattle.qd_slots.specs.Indexed.{IsIndexed}
-use Rattle.qd_slots.proofs.NameLaws.{at-same, at-other, slot_in-new, slot_in-other, slot_in-freed, slot_in-grown, found-new, found-freed, found-grown, below-or-not, name_at-grown, nones-more}
+use Rattle.qd_slots.proofs.NameLaws.{at-same, at-other, slot_in-new, slot_in-other, slot_in-freed, slot_in-grown, found-new, found-freed, found-grown, below-or-not, name_at-grown, nones-more, named-more, named-less, named_in-grown}
 
 abbrev Slots : Type 0
 Slots = IndexMap Key ℕ (BuildHasherDefault FoldHasher)
@@ -26,7 +26,8 @@ indexed-none slots e = record {
   once = tt;
   numbers = omega arith;
   few = omega arith;
-  counted = omega arith;
+  counted = refl;
+  all = refl;
   room_free = omega arith;
   room_spare = omega arith;
 }
@@ -81,7 +82,9 @@ indexed-name slots slots' names names' free free' count room slot k x absent r f
     let slots_same : free'.slots ≡ free.slots = ap (λ q. q.slots) f in
     let len : length names' ≡ length names = ap length n ∙ length-set names slot (Some k) in
     let left : length free'.list ≡ length free.list - 1 = ap length list ∙ length-rest free.list in
+    let named = ap (λ ns. length (named_in ns)) n ∙ named-more names slot k within vacant in
     let a = x.counted in
+    let all = x.all in
     let b = x.room_free in
     let c = x.room_spare in
     let d = x.numbers in
@@ -99,6 +102,7 @@ indexed-name slots slots' names names' free free' count room slot k x absent r f
       numbers = omega arith;
       few = omega arith;
       counted = omega arith;
+      all = omega arith;
       room_free = omega arith;
       room_spare = omega arith;
     }
@@ -118,6 +122,14 @@ named-within names slot k h = elim (below-or-not slot (length names)) [ inl w �
 pub freed-within : (slots : Slots) (names : List (Option Key)) (free : SlotList) (count room slot : ℕ) (k : Key) → IsIndexed slots names free count room → name_at names slot ≡ Some k → slot < free.slots
 freed-within slots names free count room slot k x at = let w = named-within names slot k at in let n = x.numbers in omega arith
 
+-- one more free slot can be counted
+pub freed-counted : (slots : Slots) (names : List (Option Key)) (free : SlotList) (count room slot : ℕ) (k : Key) → IsIndexed slots names free count room → name_at names slot ≡ Some k → count + 1 < 2 ^ 32
+freed-counted slots names free count room slot k x at =
+    let less = named-less names slot k (named-within names slot k at) at in
+    let all = x.all in
+    let few = x.few in
+    omega arith
+
 pub freed-absent : (slots : Slots) (names : List (Option Key)) (free : SlotList) (count room slot : ℕ) (k : Key) → IsIndexed slots names free count room → name_at names slot ≡ Some k → has free.list slot ≡ false
 freed-absent slots names free count room slot k x at =
     let go : (b : Bool) → has free.list slot ≡ b → b ≡ false =
@@ -126,15 +138,18 @@ freed-absent slots names free count room slot k x at =
 
 pub indexed-free : (slots slots' : Slots) (names names' : List (Option Key)) (free free' : SlotList) (count count' room slot : ℕ) (k : Key) → IsIndexed slots names free count room → name_at names slot ≡ Some k →
     (let f : SlotList = record { list = free.list ++ slot ∷ []; slots = free.slots } in free' ≡ f) → names' ≡ slice_set names slot None →
-    ((q : Key) → get key_eq slots' q ≡ (if key_eq k q then None else get key_eq slots q)) → spare slots ≤ spare slots' → count ≤ count' → count' ≤ count + 1 → IsIndexed slots' names' free' count' room
-indexed-free slots slots' names names' free free' count count' room slot k x at f n looked sp more less =
+    ((q : Key) → get key_eq slots' q ≡ (if key_eq k q then None else get key_eq slots q)) → spare slots ≤ spare slots' → count' ≡ count + 1 → IsIndexed slots' names' free' count' room
+indexed-free slots slots' names names' free free' count count' room slot k x at f n looked sp more =
     let within = named-within names slot k at in
     let absent = freed-absent slots names free count room slot k x at in
     let list : free'.list ≡ free.list ++ slot ∷ [] = ap (λ q. q.list) f in
     let slots_same : free'.slots ≡ free.slots = ap (λ q. q.slots) f in
     let len : length names' ≡ length names = ap length n ∙ length-set names slot None in
     let left : length free'.list ≡ length free.list + 1 = ap length list ∙ length-append free.list (slot ∷ []) in
+    let named = ap (λ ns. length (named_in ns)) n in
+    let less = named-less names slot k within at in
     let a = x.counted in
+    let all = x.all in
     let b = x.room_free in
     let c = x.room_spare in
     let d = x.numbers in
@@ -160,6 +175,7 @@ indexed-free slots slots' names names' free free' count count' room slot k x at 
       numbers = omega arith;
       few = omega arith;
       counted = omega arith;
+      all = omega arith;
       room_free = omega arith;
       room_spare = omega arith;
     }
@@ -192,14 +208,15 @@ indexed-roomy slots slots' names free free' count room x e sp list more =
       numbers = omega arith;
       few = x.few;
       counted = omega arith;
+      all = x.all;
       room_free = x.room_free;
       room_spare = omega arith;
     }
 
 -- free slots were added
 pub indexed-grown : (slots : Slots) (names names' : List (Option Key)) (free free' : SlotList) (count count' room room' n : ℕ) → IsIndexed slots names free count room → names' ≡ names ++ nones n → IsVacant names' free'.list → EachOnce free'.list →
-    length names' ≤ free'.slots → length names' < 2 ^ 32 → count' ≤ length free'.list → room' ≤ count' → room' ≤ spare slots → IsIndexed slots names' free' count' room'
-indexed-grown slots names names' free free' count count' room room' n x e vacant once numbers few counted room_free room_spare = record {
+    length names' ≤ free'.slots → length names' < 2 ^ 32 → count' ≡ length free'.list → length names' + count ≡ length names + count' → room' ≤ count' → room' ≤ spare slots → IsIndexed slots names' free' count' room'
+indexed-grown slots names names' free free' count count' room room' n x e vacant once numbers few counted more room_free room_spare = record {
   looked = λ q. x.looked q ∙ sym (slot_in-grown names n q) ∙ ap (λ ns. slot_in ns q) (sym e);
   found = subst (λ (ns : List (Option Key)). IsFound ns) (sym e) (found-grown names n x.found);
   vacant = vacant;
@@ -207,6 +224,7 @@ indexed-grown slots names names' free free' count count' room room' n x e vacant
   numbers = numbers;
   few = few;
   counted = counted;
+  all = let a = x.all in let named = ap (λ ns. length (named_in ns)) e ∙ ap length (named_in-grown names n) in omega arith;
   room_free = room_free;
   room_spare = room_spare;
 }
@@ -219,8 +237,8 @@ grown-none names = (0, sym (append-nil names))
 pub grown-same : (old new : List (Option Key)) (n m : ℕ) → new ≡ old ++ nones n → IsGrown old new
 grown-same old new n m e = (n, e)
 
-pub ready-none : (names : List (Option Key)) (free : SlotList) (count more : ℕ) → count ≤ length free.list → IsVacant names free.list → EachOnce free.list → length names ≤ free.slots → length names < 2 ^ 32 → more ≤ count → IsReady names names free more
-ready-none names free count more c v o n f m = record { grown = grown-none names; vacant = v; once = o; numbers = n; few = f; counted = omega arith }
+pub ready-none : (names : List (Option Key)) (free : SlotList) (count more : ℕ) → count ≡ length free.list → IsVacant names free.list → EachOnce free.list → length names ≤ free.slots → length names < 2 ^ 32 → more ≤ count → IsReady names names free count more
+ready-none names free count more c v o n f m = record { grown = grown-none names; added = omega arith; vacant = v; once = o; numbers = n; few = f; counted = omega arith }
 
 -- a free slot at the end
 pub vacant-more : (names names' : List (Option Key)) (free free' : SlotList) (slot : ℕ) → slot ≡ length names → IsVacant names free.list → names' ≡ names ++ None ∷ [] →
@@ -263,8 +281,9 @@ one-more old names names' from slot e n le =
 
 -- after a reservation
 pub indexed-reserved : (slots slots' : Slots) (names names' : List (Option Key)) (free free' : SlotList) (count count' room more : ℕ) → IsIndexed slots names free count room → slots'.entries ≡ slots.entries → spare slots ≤ spare slots' → more ≤ spare slots' →
-    IsReady names names' free' more → length free.list ≤ length free'.list → free.slots ≤ free'.slots → count' ≡ max count more → IsIndexed slots' names' free' count' more
+    IsReady names names' free' count more → length free.list ≤ length free'.list → free.slots ≤ free'.slots → count' ≡ max count more → IsIndexed slots' names' free' count' more
 indexed-reserved slots slots' names names' free free' count count' room more x e sp sp' r kept num c =
     let a = x.counted in
     let b = r.counted in
-    indexed-grown slots' names names' free free' count count' room more (r.grown.0) (indexed-roomy slots slots' names free free count room x e sp refl (omega arith)) r.grown.1 r.vacant r.once r.numbers r.few (omega arith) (omega arith) sp'
+    let d = r.added in
+    indexed-grown slots' names names' free free' count count' room more (r.grown.0) (indexed-roomy slots slots' names free free count room x e sp refl (omega arith)) r.grown.1 r.vacant r.once r.numbers r.few (omega arith) (omega arith) (omega arith) sp'

@@ -1,12 +1,13 @@
 -- Which key has which slot, after one is named or freed.
-use Rattle.std.proofs.Common.{◌≡◌, ◌≢◌, ◌⊎◌, inl, inr, ℕ, zero, suc, ◌+◌, ◌-◌, ◌^◌, ◌<◌, ◌≤◌, Bool, true, false, cond, nat_eq, nat_lt, if◌then◌else◌, Option, Some, None, IfSome, List, [], ◌∷◌, ◌++◌, length, slice_set, slice_index_or, get_or-set_other, get_or-set_same, add-one, refl, ap, sym, ◌∙◌, arith, subst}
+use Rattle.std.proofs.Common.{◌≡◌, ◌≢◌, ◌⊎◌, inl, inr, ℕ, zero, suc, ◌+◌, ◌-◌, ◌<◌, ◌≤◌, Bool, true, false, nat_eq, nat_lt, if◌then◌else◌, Option, Some, None, IfSome, List, [], ◌∷◌, ◌++◌, length, slice_set, get_or-set_other, get_or-set_same, add-one, refl, ap, sym, ◌∙◌, arith, subst}
 use Rattle.std.proofs.lemmas.Bool.Decides.{nat_tests}
-use Rattle.std.proofs.lemmas.List.{length-set, get_or_append_left, get_or-append_right, get_or_past}
+use Rattle.std.specs.List.{cons_option}
+use Rattle.std.proofs.lemmas.List.{get_or_append_left, get_or-append_right, get_or_past}
 use Rattle.qd_scheme.specs.declared.key.Key.{Key}
 use Rattle.qd_scheme.specs.Keys.{key_eq}
-use Rattle.qd_scheme.proofs.KeyLaws.{key_eq-same, key_eq-true, key_eq-comm}
+use Rattle.qd_scheme.proofs.KeyLaws.{key_eq-same, key_eq-true}
 use Rattle.qd_pend.proofs.ListLaws.{same, equal}
-use Rattle.qd_slots.specs.Names.{is_name, slot_from, slot_in, name_at, nones, IsFound}
+use Rattle.qd_slots.specs.Names.{is_name, slot_from, slot_in, name_at, named_in, nones, IsFound}
 
 pub at-same : (names : List (Option Key)) (i : ℕ) (o : Option Key) → i < length names → name_at (slice_set names i o) i ≡ o
 at-same names i o h = get_or-set_same names i o None h
@@ -173,3 +174,28 @@ slot_in-named names k s h = let r = slot_from-named 0 names k s h in ap (name_at
 pub slot_of-named : (names : List (Option Key)) (k : Key) (o : Option ℕ) → o ≡ slot_in names k → IfSome o (λ s. name_at names s ≡ Some k)
 slot_of-named names k None h = tt
 slot_of-named names k (Some s) h = slot_in-named names k s (sym h)
+
+-- one key more has a slot
+pub named-more : (names : List (Option Key)) (i : ℕ) (k : Key) → i < length names → name_at names i ≡ None → length (named_in (slice_set names i (Some k))) ≡ length (named_in names) + 1
+named-more [] i k l e = absurd (omega arith)
+named-more (o ∷ names) zero k l e = let f : length (named_in (o ∷ names)) ≡ length (named_in names) = ap (λ p. length (cons_option p (named_in names))) e in omega (arith, f)
+named-more (None ∷ names) (suc i) k l e = named-more names i k (omega (arith, l)) e
+named-more (Some j ∷ names) (suc i) k l e = let f = named-more names i k (omega (arith, l)) e in omega (arith, f)
+
+-- one less
+pub named-less : (names : List (Option Key)) (i : ℕ) (k : Key) → i < length names → name_at names i ≡ Some k → length (named_in (slice_set names i None)) + 1 ≡ length (named_in names)
+named-less [] i k l e = absurd (omega arith)
+named-less (o ∷ names) zero k l e = let f : length (named_in (o ∷ names)) ≡ suc (length (named_in names)) = ap (λ p. length (cons_option p (named_in names))) e in omega (arith, f)
+named-less (None ∷ names) (suc i) k l e = named-less names i k (omega (arith, l)) e
+named-less (Some j ∷ names) (suc i) k l e = let f = named-less names i k (omega (arith, l)) e in omega (arith, f)
+
+named_in-nones : (n : ℕ) → named_in (nones n) ≡ []
+unfolding nones
+named_in-nones zero = refl
+named_in-nones (suc n) = named_in-nones n
+
+-- free slots at the end name no key
+pub named_in-grown : (names : List (Option Key)) (n : ℕ) → named_in (names ++ nones n) ≡ named_in names
+named_in-grown [] n = named_in-nones n
+named_in-grown (None ∷ names) n = named_in-grown names n
+named_in-grown (Some k ∷ names) n = ap (λ ks. k ∷ ks) (named_in-grown names n)

@@ -1,7 +1,7 @@
 -- Which agents hold which slots, and in which order their subscriptions began.
 use Rattle.std.specs.Prelude.{ℕ, zero, suc, ◌≡◌, ◌+◌, ◌-◌, ◌≤◌, ◌<◌, Bool, true, false, min, if◌then◌else◌, Option, Some, None, List, [], ◌∷◌, ◌++◌, length, max, replicate, slice_index, slice_index_or, slice_set}
 use Rattle.std.specs.List.{list_any}
-use Rattle.qd_pend.specs.Slots.{SlotList, has, without, first_in}
+use Rattle.qd_pend.specs.Slots.{SlotList, has, without}
 use Rattle.qd_slots.specs.declared.holds.Hold.{Hold}
 use Rattle.qd_slots.specs.declared.holds.Hold.TheVariants.{Free, Kept, Subscribed}
 use Rattle.qd_slots.specs.declared.holds.Cell.{Cell}

@@ -1,5 +1,6 @@
 -- Which key has which slot.
-use Rattle.std.specs.Prelude.{ℕ, zero, suc, ◌≡◌, ◌<◌, ◌≤◌, ◌^◌, ◌++◌, Bool, true, false, if◌then◌else◌, Option, Some, None, List, [], ◌∷◌, length, slice_index_or}
+use Rattle.std.specs.Prelude.{ℕ, zero, suc, ◌≡◌, ◌<◌, ◌≤◌, ◌^◌, ◌++◌, Bool, true, false, if◌then◌else◌, Option, Some, None, List, [], ◌∷◌, ◌+◌, ◌-◌, length, max, slice_index_or}
+use Rattle.std.specs.List.{filter_map}
 use Rattle.qd_scheme.specs.declared.key.Key.{Key}
 use Rattle.qd_scheme.specs.Keys.{key_eq}
 use Rattle.qd_pend.specs.Slots.{SlotList, has, EachOnce}
@@ -27,6 +28,10 @@ slot_in names k = slot_from 0 names k
 abbrev pub name_at : List (Option Key) → ℕ → Option Key
 name_at names i = slice_index_or names i None
 
+-- the keys that have a slot, in the order of their slots
+abbrev pub named_in : List (Option Key) → List Key
+named_in names = filter_map (λ name. name) names
+
 -- so many free slots
 unfoldable pub nones : ℕ → List (Option Key)
 nones zero = []
@@ -44,11 +49,12 @@ IsVacant names free = (i : ℕ) → has free i ≡ true → (i < length names) �
 abbrev pub IsGrown : List (Option Key) → List (Option Key) → Type 0
 IsGrown old new = (n : ℕ) × (new ≡ old ++ nones n)
 
--- free slots were added, so that this many are free
-pub record IsReady (old new : List (Option Key)) (free : SlotList) (more : ℕ) : Type 0 where
+-- free slots were added, as many as the free ones (`count`) fell short of what was asked for
+pub record IsReady (old new : List (Option Key)) (free : SlotList) (count more : ℕ) : Type 0 where
   pub grown : IsGrown old new
+  pub added : length new ≡ length old + (more - count)
   pub vacant : IsVacant new free.list
   pub once : EachOnce free.list
   pub numbers : length new ≤ free.slots
   pub few : length new < 2 ^ 32
-  pub counted : more ≤ length free.list
+  pub counted : length free.list ≡ max count more

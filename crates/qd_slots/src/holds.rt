@@ -21,32 +21,25 @@ pub enum Hold {
 }
 
 impl Hold {
+    /// Whether it is a subscription.
     pub fn is_subscribed(self) -> bool
         ensures { result ≡ is_subscribed self }
     {
-        match self {
-            Hold::Subscribed => true,
-            Hold::Free | Hold::Kept => false,
-        }
+        matches!(self, Hold::Subscribed)
     }
 
     /// Whether it is kept without a subscription.
     pub fn is_kept(self) -> bool
         ensures { result ≡ is_kept self }
     {
-        match self {
-            Hold::Kept => true,
-            Hold::Free | Hold::Subscribed => false,
-        }
+        matches!(self, Hold::Kept)
     }
 
+    /// Whether it is kept or a subscription.
     pub fn is_held(self) -> bool
         ensures { result ≡ is_held self }
     {
-        match self {
-            Hold::Free => false,
-            Hold::Kept | Hold::Subscribed => true,
-        }
+        matches!(self, Hold::Kept | Hold::Subscribed)
     }
 }
 

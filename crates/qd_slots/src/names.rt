@@ -1,11 +1,11 @@
 //! The slot numbers of keys.
 
-ghost use Rattle.std.specs.Prelude.{◌≡◌, ◌+◌, ◌∷◌, ◌<◌, ◌≤◌, ◌^◌, ◌-◌, ◌++◌, [], length, slice_set, if◌then◌else◌, Option, Some, None, OnOk, OnErr, IfOk, IfSome, vec_len, vec_capacity};
+ghost use Rattle.std.specs.Prelude.{◌≡◌, ◌+◌, ◌∷◌, ◌<◌, ◌≤◌, ◌^◌, ◌-◌, ◌++◌, [], length, slice_set, if◌then◌else◌, Option, Some, None, OnOk, OnErr, IfOk, IfSome, max, vec_len, vec_capacity};
 ghost use Rattle.indexmap.specs.IndexMap.{get, spare};
 ghost use Rattle.qd_scheme.specs.declared.key.Key.{Key};
 ghost use Rattle.qd_scheme.specs.Keys.{key_eq};
 ghost use Rattle.qd_pend.specs.Slots.{EachOnce};
-ghost use Rattle.qd_slots.specs.Names.{slot_in, name_at, nones, IsFound, IsVacant, IsGrown, IsReady};
+ghost use Rattle.qd_slots.specs.Names.{slot_in, name_at, named_in, nones, IsFound, IsVacant, IsGrown, IsReady};
 
 use indexmap::IndexMap;
 use qd_pend::PendQueue;
@@ -15,13 +15,14 @@ use std::marker::Model;
 
 /// Keys, each with a slot number of its own for as long as it is named.
 ///
-/// Slot numbers are small: one that was freed is given again. Only `new` and `reserve` take memory.
+/// Slot numbers are small: one that was freed is given again, and slots are added only where too few are free.
+/// Only `new` and `reserve` take memory.
 #[derive(Drop)]
 pub struct Names {
     slots: IndexMap<Key, u32>,
     names: Vec<Option<Key>>,
     free: PendQueue,
-    // At least so many slots are free, and so many keys can be named without memory.
+    // How many slots are free, and how many keys can be named without memory.
     free_count: u32,
     room: u32,
 }
@@ -88,6 +89,8 @@ impl Names {
         ensures names { OnOk result (IsGrown self.old.names self.new.names) }
         ensures ok { OnOk result (more ≤ self.new.room) }
         ensures few { length self.new.names ≤ length self.old.names + more }
+        // There are never more slots than were needed at once.
+        ensures small { length self.new.names ≤ max (length self.old.names) (length (named_in self.old.names) + more) }
         ensures kept { self.old.room ≤ self.new.room }
         ensures err { OnErr result (self.new ≡ self.old) }
     {
@@ -129,7 +132,7 @@ impl Names {
         set_name(&mut self.names, slot, None);
         drop_slot(&mut self.slots, key);
         self.free.push_back(slot);
-        self.free_count = self.free_count.saturating_add(1);
+        self.free_count += 1;
     }
 }
 
@@ -158,16 +161,16 @@ fn grow(
     free_count: u32,
     more: u32,
 ) -> Result<(), AllocError>
-    requires counted { free_count ≤ length free.old.list }
+    requires counted { free_count ≡ length free.old.list }
     requires vacant { IsVacant names.old.items free.old.list }
     requires once { EachOnce free.old.list }
     requires numbers { vec_len names.old ≤ free.old.slots }
     requires few { vec_len names.old < 2 ^ 32 }
-    ensures ok { OnOk result (IsReady names.old.items names.new.items free.new more) }
+    ensures ok { OnOk result (IsReady names.old.items names.new.items free.new free_count more) }
     ensures err { OnErr result ((names.new.items ≡ names.old.items) × (free.new.list ≡ free.old.list)) }
     ensures kept { length free.old.list ≤ length free.new.list }
     ensures numbers { free.old.slots ≤ free.new.slots }
-    ensures few { vec_len names.new ≤ vec_len names.old + more }
+    ensures few { vec_len names.new ≤ vec_len names.old + (more - free_count) }
 {
     if more <= free_count {
         return Ok(());

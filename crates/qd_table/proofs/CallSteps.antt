@@ -2,6 +2,8 @@
 use Rattle.std.proofs.Common.{◌≡◌, ◌⊎◌, inl, inr, ℕ, ◌<◌, ◌≤◌, ◌+◌, ◌-◌, Bool, true, false, ◌&&◌, ◌||◌, not, if◌then◌else◌, nat_eq, Option, Some, None, is_some, List, length, refl, ap, sym, ◌∙◌, arith, subst}
 use Rattle.std.proofs.lemmas.Bool.Decides.{nat_tests}
 use Rattle.std.specs.List.{list_any}
+use Rattle.std.proofs.Math.Bool.{and-false, and-true}
+use Rattle.std.proofs.lemmas.Bool.{not-true}
 use Rattle.qd_scheme.specs.declared.key.Key.{Key}
 use Rattle.qd_scheme.specs.Keys.{key_eq}
 use Rattle.qd_scheme.proofs.KeyLaws.{key_eq-true}
@@ -22,14 +24,6 @@ use Rattle.qd_table.specs.Sound.{IsSound, EachPairOnce}
 use Rattle.qd_table.proofs.TableLaws.{true-false, by, Moved, moved, by-moved, by-own, by-same, unused, unused-hold, subscribed-held}
 use Rattle.qd_table.proofs.ListLaws.{queued-as}
 use Rattle.qd_table.proofs.SoundSteps.{IsStep, total_for-same, differs_for-same, is_used-same, used-held, sound-step, counted-same, counted-more, counted-less}
-
-and-false : (b : Bool) → (b && false) ≡ false
-and-false true = refl
-and-false false = refl
-
-and-true : (b : Bool) → (b && true) ≡ b
-and-true true = refl
-and-true false = refl
 
 pub cell-elsewhere : (b i a slot : ℕ) → nat_eq i slot ≡ false → is_cell b i a slot ≡ false
 cell-elsewhere b i a slot e = ap (λ c. nat_eq b a && c) e ∙ and-false (nat_eq b a)
@@ -107,10 +101,6 @@ unheld t slot u b out = elim (below-or-not b 128) [
       elim [ true ↦ λ e. absurd (true-false (sym (used-held t b slot l e) ∙ u)) | false ↦ λ e. e ] in go (is_held (hold_for t b slot)) refl)
   | inr m ↦ ap is_held (out m)
 ]
-
-not-not : (b : Bool) → not b ≡ true → b ≡ false
-not-not true h = sym h
-not-not false h = refl
 
 pub sound-subscribed : (old new : Table) (a : ℕ) (k : Key) (limit slot : ℕ) → IsSound old → a < 128 → IsSubscribed old a k limit slot new → IsSound new
 unfolding holds_by
@@ -191,7 +181,7 @@ held_if false new old = refl
 pub ended-held : (old new : Table) (a : ℕ) (k : Key) (slot : ℕ) (keep : Bool) → IsSound old → key_at old slot ≡ Some k → a < 128 → IsEnded old a slot keep new → (b : ℕ) (j : Key) → holds_by new b j ≡ (if is_pair b j a k then keep else holds_by old b j)
 ended-held old new a k slot keep s own l h =
     let step = ended-step old new a k slot keep s own l h in
-    held-set old new a k slot (not (is_used new slot)) keep s (kept-moved old new k slot s own h.names) (λ e b. unheld new slot (not-not (is_used new slot) e) b (step.agents b))
+    held-set old new a k slot (not (is_used new slot)) keep s (kept-moved old new k slot s own h.names) (λ e b. unheld new slot (not-true (is_used new slot) e) b (step.agents b))
     (λ b i. ap is_held (h.holds b i) ∙ held_if (is_cell b i a slot) (after_end keep) (hold_for old b i) ∙ ap (λ c. if is_cell b i a slot then c else is_held (hold_for old b i)) (after-held keep))
 
 holds-here : (t : Table) (a : ℕ) (k : Key) (slot : ℕ) → slot_for t k ≡ Some slot → holds_by t a k ≡ is_held (hold_for t a slot)
@@ -244,7 +234,7 @@ go-step old new a k slot s own h = record {
 pub go-held : (old new : Table) (a : ℕ) (k : Key) (slot : ℕ) → IsSound old → key_at old slot ≡ Some k → IsLetGo old a slot new → (b : ℕ) (j : Key) → holds_by new b j ≡ (if is_pair b j a k then is_subscribed (hold_for old a slot) else holds_by old b j)
 go-held old new a k slot s own h =
     let step = go-step old new a k slot s own h in
-    held-set old new a k slot (not (is_used new slot)) (is_subscribed (hold_for old a slot)) s (kept-moved old new k slot s own h.names) (λ e b. unheld new slot (not-not (is_used new slot) e) b (step.agents b))
+    held-set old new a k slot (not (is_used new slot)) (is_subscribed (hold_for old a slot)) s (kept-moved old new k slot s own h.names) (λ e b. unheld new slot (not-true (is_used new slot) e) b (step.agents b))
     (λ b i. ap is_held (h.holds b i) ∙ left (nat_eq b a) (nat_eq i slot) b i refl refl)
   where
     freed : (hold : Hold) → is_held (if is_kept hold then Free else hold) ≡ is_subscribed hold
@@ -306,7 +296,7 @@ unfolding holds_by
 told-held old new w slot k s l own h b j =
     let step = told-step old new w slot k s l own h in
     by-same old new k slot (not (is_used new slot)) (kept-moved old new k slot s own h.names) (λ i. is_held (hold_for old b i)) (λ i. is_held (hold_for new b i)) false
-    (λ v. ap is_held (unused-hold old b slot s (unused old slot s v))) (λ e. unheld new slot (not-not (is_used new slot) e) b (step.agents b)) (λ i. ap is_held (h.holds b i)) j
+    (λ v. ap is_held (unused-hold old b slot s (unused old slot s v))) (λ e. unheld new slot (not-true (is_used new slot) e) b (step.agents b)) (λ i. ap is_held (h.holds b i)) j
 
 pub sound-told : (old new : Table) (w slot : ℕ) (k : Key) → IsSound old → w < 8 → key_at old slot ≡ Some k → IsTold old w slot new → IsSound new
 sound-told old new w slot k s l own h =

@@ -1,7 +1,6 @@
 -- Cells, orders, views and names after one of them is set.
 use Rattle.std.proofs.Common.{◌≡◌, inl, inr, ℕ, zero, suc, ◌+◌, ◌<◌, Bool, true, false, ◌&&◌, if◌then◌else◌, nat_eq, Option, Some, None, Result, Ok, Err, OnOk, OnErr, List, [], ◌∷◌, length, slice_index, slice_index_or, slice_set, get_or-set_other, get_or-set_same, refl, ap, sym, ◌∙◌, arith, subst}
 use Rattle.std.proofs.lemmas.List.{length-set, get_or_past, set-get_or}
-use Rattle.std.specs.List.{cons_option}
 use Rattle.qd_scheme.specs.declared.key.Key.{Key}
 use Rattle.qd_pend.proofs.ListLaws.{equal}
 use Rattle.qd_slots.specs.declared.holds.Hold.{Hold}
@@ -13,7 +12,6 @@ use Rattle.qd_slots.proofs.IndexLaws.{grown-none}
 use Rattle.qd_slots.specs.Holds.{no_cell, cell_at, hold_at, hold_in, limit_in, is_subscribed, with_hold, with_limit}
 use Rattle.qd_slots.specs.Views.{Viewing, no_viewing, no_view, view_at, viewing_at, view_after, view_told, view_differs, queued, queued_again, with_told, EachSaw}
 use Rattle.qd_slots.proofs.NameLaws.{below-or-not}
-use Rattle.qd_table.specs.Stored.{named_in}
 use Rattle.qd_table.proofs.TableLaws.{apart-numbers, some-none}
 
 -- an item after one was set
@@ -144,22 +142,6 @@ queue-told old new u slot told total e l w =
       | false ↦ λ p. refl
     ] in
     go (nat_eq w u) refl)
-
--- how many keys have a slot
-named-cons : (o : Option Key) (names : List (Option Key)) → named_in (o ∷ names) ≡ cons_option o (named_in names)
-named-cons o names = refl
-
-pub named-more : (names : List (Option Key)) (i : ℕ) (k : Key) → i < length names → name_at names i ≡ None → length (named_in (slice_set names i (Some k))) ≡ length (named_in names) + 1
-named-more [] i k l e = absurd (omega arith)
-named-more (o ∷ names) zero k l e = let f : length (named_in (o ∷ names)) ≡ length (named_in names) = ap (λ p. length (cons_option p (named_in names))) e in omega (arith, f)
-named-more (None ∷ names) (suc i) k l e = named-more names i k (omega (arith, l)) e
-named-more (Some j ∷ names) (suc i) k l e = let f = named-more names i k (omega (arith, l)) e in omega (arith, f)
-
-pub named-less : (names : List (Option Key)) (i : ℕ) (k : Key) → i < length names → name_at names i ≡ Some k → length (named_in (slice_set names i None)) + 1 ≡ length (named_in names)
-named-less [] i k l e = absurd (omega arith)
-named-less (o ∷ names) zero k l e = let f : length (named_in (o ∷ names)) ≡ suc (length (named_in names)) = ap (λ p. length (cons_option p (named_in names))) e in omega (arith, f)
-named-less (None ∷ names) (suc i) k l e = named-less names i k (omega (arith, l)) e
-named-less (Some j ∷ names) (suc i) k l e = let f = named-less names i k (omega (arith, l)) e in omega (arith, f)
 
 pub name-again : (names : List (Option Key)) (i : ℕ) (o : Option Key) → name_at names i ≡ o → slice_set names i o ≡ names
 name-again names i o e = ap (slice_set names i) (sym e) ∙ set-get_or names i None

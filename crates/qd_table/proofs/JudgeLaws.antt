@@ -10,14 +10,14 @@ use Rattle.qd_scheme.proofs.KeyLaws.{key_eq-true}
 use Rattle.qd_sub.specs.declared.sub.Sub.{Sub}
 use Rattle.qd_sub.specs.Holding.{has_key, fresh}
 use Rattle.qd_sub.proofs.OrderLaws.{any-filter}
-use Rattle.qd_slots.specs.Names.{slot_in, slot_from}
+use Rattle.qd_slots.specs.Names.{slot_in, slot_from, named_in}
 use Rattle.qd_slots.specs.Holds.{Holdings, hold_at, is_held}
 use Rattle.qd_table.specs.declared.table.SubFault.{SubFault}
 use Rattle.qd_table.specs.declared.table.SubFault.TheVariants.{TooManyKeys, TooManySubs, NoMemory}
 use Rattle.qd_table.specs.Tables.{Table, slot_for, keys_in, hold_for, holds_by, keys_held, pairs_in, too_many_keys, too_many_subs, fault_of}
 use Rattle.qd_table.specs.Steps.{IsCause}
 use Rattle.qd_table.specs.Judging.{fresh_count, has_slot, holds_key, seen_or, verdict_for, verdict_of}
-use Rattle.qd_table.specs.Stored.{Store, table_of, named_in, IsStored}
+use Rattle.qd_table.specs.Stored.{Store, table_of, IsStored}
 use Rattle.qd_table.proofs.TableLaws.{by}
 
 pub count-same : (p q : Key → Bool) (ks : List Key) → ((j : Key) → p j ≡ q j) → fresh_count p ks ≡ fresh_count q ks

@@ -7,6 +7,7 @@ use Rattle.std.proofs.lemmas.List.{append-nil, length-append, drop_more}
 use Rattle.std.proofs.Math.ListN.{drop_of_length-le}
 use Rattle.std.proofs.lemmas.List.Elements.{filter_map-append}
 use Rattle.std.specs.List.{filter_map, cons_option}
+use Rattle.std.proofs.lemmas.Bool.{not-true}
 use Rattle.qd_scheme.specs.declared.key.Key.{Key}
 use Rattle.qd_buffer.specs.Filled.{Filled, with_items}
 use Rattle.qd_sub.specs.declared.sub.Sub.{Sub}
@@ -118,16 +119,12 @@ unused-wanted t slot s u =
     ] in
     go (is_wanted_slot t slot) refl
 
-not-not : (b : Bool) → not b ≡ true → b ≡ false
-not-not true h = sym h
-not-not false h = refl
-
 pub end-unwanted : (old new : Table) (a : ℕ) (k : Key) (slot : ℕ) (keep : Bool) → IsSound old → IsSound new → slot_for old k ≡ Some slot → is_subscribed (hold_for old a slot) ≡ true → IsEnded old a slot keep new → not (is_wanted_slot new slot) ≡ becomes_unwanted old new k
 unfolding becomes_unwanted is_wanted_key
 end-unwanted old new a k slot keep s snew e sub h =
     let own = key_at-found old k slot e in
     sym (ap (λ c. c && not (is_wanted_key new k)) (wanted-key old k slot e ∙ wanted-subscriber old a slot s sub)
-    ∙ ap not (by-new old new k slot (not (is_used new slot)) (kept-moved old new k slot s own h.names) (is_wanted_slot new) false (λ g. unused-wanted new slot snew (not-not (is_used new slot) g))))
+    ∙ ap not (by-new old new k slot (not (is_used new slot)) (kept-moved old new k slot s own h.names) (is_wanted_slot new) false (λ g. unused-wanted new slot snew (not-true (is_used new slot) g))))
 
 -- an order after the end of its first
 first-split : (list : List ℕ) (slot : ℕ) → first_in list ≡ Some slot → list ≡ slot ∷ rest_of list

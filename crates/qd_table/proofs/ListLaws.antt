@@ -2,6 +2,8 @@
 use Rattle.std.proofs.Common.{◌≡◌, ◌≢◌, ℕ, zero, suc, Bool, true, false, ◌&&◌, ◌||◌, not, if◌then◌else◌, nat_eq, Option, List, [], ◌∷◌, ◌++◌, length, refl, ap, sym, subst, ◌∙◌}
 use Rattle.std.proofs.lemmas.List.{append-nil}
 use Rattle.std.specs.List.{list_any, filter, filter_map}
+use Rattle.std.proofs.Math.Bool.{or-false}
+use Rattle.std.proofs.lemmas.Bool.{and_from, not-true}
 use Rattle.qd_scheme.specs.declared.key.Key.{Key}
 use Rattle.qd_sub.proofs.OrderLaws.{once}
 use Rattle.qd_sub.proofs.StepLaws.{pair_eq, pair_eq-true}
@@ -10,10 +12,6 @@ use Rattle.qd_pend.proofs.ListLaws.{same, unequal, without-absent, has-without, 
 use Rattle.qd_slots.specs.Views.{queued, queued_again}
 use Rattle.qd_table.specs.Tables.{below}
 use Rattle.qd_table.specs.Sound.{EachPairOnce}
-
-or-false : (b : Bool) → (b || false) ≡ b
-or-false true = refl
-or-false false = refl
 
 push-other : (list : List ℕ) (slot i : ℕ) → i ≢ slot → has (list ++ slot ∷ []) i ≡ has list i
 push-other list slot i n = has-push list slot i ∙ ap (λ b. has list i || b) (unequal i slot n) ∙ or-false (has list i)
@@ -85,13 +83,6 @@ and-right : (a b : Bool) → (a && b) ≡ true → b ≡ true
 and-right true b h = h
 and-right false b h = cc
 
-both-true : (a b : Bool) → a ≡ true → b ≡ true → (a && b) ≡ true
-both-true a b h k = rw (h, k) refl
-
-not-true : (b : Bool) → not b ≡ true → b ≡ false
-not-true true h = sym h
-not-true false h = refl
-
 pub once-each : (ps : List (ℕ × Key)) → once pair_eq ps ≡ true → EachPairOnce ps
 unfolding once EachPairOnce
 once-each [] h = tt
@@ -100,7 +91,7 @@ once-each (p ∷ ps) h = (not-true (list_any (pair_eq p) ps) (and-left (not (lis
 pub each-once : (ps : List (ℕ × Key)) → EachPairOnce ps → once pair_eq ps ≡ true
 unfolding once EachPairOnce
 each-once [] h = refl
-each-once (p ∷ ps) h = both-true (not (list_any (pair_eq p) ps)) (once pair_eq ps) (ap not h.0) (each-once ps h.1)
+each-once (p ∷ ps) h = and_from (not (list_any (pair_eq p) ps)) (once pair_eq ps) (ap not h.0) (each-once ps h.1)
 
 filter-absent : (p : ℕ × Key) (ps : List (ℕ × Key)) → list_any (pair_eq p) ps ≡ false → filter (λ q. not (pair_eq p q)) ps ≡ ps
 filter-absent p [] h = refl

@@ -1,6 +1,7 @@
 -- A table that is sound is so after each call.
 use Rattle.std.proofs.Common.{◌≡◌, ◌⊎◌, inl, inr, ℕ, ◌<◌, ◌≤◌, ◌+◌, ◌-◌, Bool, true, false, ◌&&◌, ◌||◌, not, if◌then◌else◌, nat_eq, Some, is_some, List, ◌∷◌, length, refl, ap, sym, ◌∙◌, arith, subst}
 use Rattle.std.specs.List.{list_any, filter}
+use Rattle.std.proofs.Math.Bool.{and-false}
 use Rattle.qd_scheme.specs.declared.key.Key.{Key}
 use Rattle.qd_sub.specs.Acts.{is_pair}
 use Rattle.qd_sub.specs.Subscriptions.{least}
@@ -15,10 +16,6 @@ use Rattle.qd_table.specs.Tables.{Table, key_at, slot_for, below, hold_for, limi
 use Rattle.qd_table.specs.Sound.{IsSound, EachPairOnce}
 use Rattle.qd_table.proofs.TableLaws.{or-left, apart-numbers, below-any, below-same}
 use Rattle.qd_table.proofs.ListLaws.{queued-other, queued-own, queued-once, again-other, again-own, again-once, gives-same, once-each, each-once, length-less}
-
-and-false : (b : Bool) → (b && false) ≡ false
-and-false true = refl
-and-false false = refl
 
 -- a call changes one slot alone, and orders and queues follow
 pub record IsStep (old new : Table) (slot : ℕ) : Type 0 where

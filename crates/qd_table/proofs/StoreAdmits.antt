@@ -6,15 +6,15 @@ use Rattle.qd_pend.specs.Slots.{has}
 use Rattle.qd_slots.specs.declared.holds.Hold.TheVariants.{Free}
 use Rattle.qd_slots.specs.declared.holds.Cell.{Cell}
 use Rattle.qd_slots.specs.declared.views.View.{View}
-use Rattle.qd_slots.specs.Names.{NameList, slot_in, name_at, nones, IsGrown}
+use Rattle.qd_slots.specs.Names.{NameList, slot_in, name_at, nones, IsGrown, named_in}
 use Rattle.qd_slots.specs.Holds.{no_cell, free_cell, free_cells, cell_at, order_at, hold_at, hold_in, limit_in, is_subscribed, is_kept, IsHolding, IsRoomier}
 use Rattle.qd_slots.specs.Kept.{KeepsRoom}
 use Rattle.qd_slots.specs.Views.{Viewing, no_viewing, no_view, no_views, view_at, viewing_at, HasSlots, EachWider}
-use Rattle.qd_slots.proofs.NameLaws.{below-or-not, slot_in-grown, name_at-grown}
+use Rattle.qd_slots.proofs.NameLaws.{below-or-not, slot_in-grown, name_at-grown, named_in-grown}
 use Rattle.qd_slots.proofs.HoldLaws.{free-at, length-free, hold_at-free}
 use Rattle.qd_table.specs.Tables.{slots_in, key_at, slot_for, hold_for, limit_for, order_of, pairs_in, view_for, queue_of}
 use Rattle.qd_table.specs.Steps.{IsSame}
-use Rattle.qd_table.specs.Stored.{Store, table_of, named_in, IsStored}
+use Rattle.qd_table.specs.Stored.{Store, table_of, IsStored}
 use Rattle.qd_table.proofs.CallSteps.{sound-same}
 
 -- free cells were added
@@ -53,16 +53,6 @@ wider-slots n old new h r w l =
     let p = room.0 in let q = room.1 in let s = v.slots in
     let e = ap length v.views.1 ∙ length-append (viewing_at old w).views (no_views v.views.0) in
     (omega (arith, p, e), omega (arith, q, s))
-
-nones-named : (n : ℕ) → named_in (nones n) ≡ []
-unfolding nones
-nones-named zero = refl
-nones-named (suc n) = nones-named n
-
-named-grown : (names : List (Option Key)) (n : ℕ) → named_in (names ++ nones n) ≡ named_in names
-named-grown [] n = nones-named n
-named-grown (None ∷ names) n = named-grown names n
-named-grown (Some k ∷ names) n = ap (λ ks. k ∷ ks) (named-grown names n)
 
 -- what a reservation leaves
 pub record Reserving (s s' : Store) : Type 0 where
@@ -128,7 +118,7 @@ reserving-stored {s} {s'} inv h r = record {
   names_room = r.names_room;
   few_pairs = r.few_pairs;
   few_keys = r.few_keys;
-  counted = h.named ∙ inv.counted ∙ sym (ap (λ ns. length (named_in ns)) h.names.1 ∙ ap length (named-grown s.names.names h.names.0));
+  counted = h.named ∙ inv.counted ∙ sym (ap (λ ns. length (named_in ns)) h.names.1 ∙ ap length (named_in-grown s.names.names h.names.0));
 }
   where
     hold : (a i : ℕ) → hold_at s'.holdings.cells i a ≡ hold_at s.holdings.cells i a

@@ -1,13 +1,14 @@
 -- The ends of subscriptions, what is let go and what is told, in the parts of a table.
 use Rattle.std.proofs.Common.{◌≡◌, ℕ, ◌-◌, ◌<◌, ◌≤◌, Bool, true, false, ◌&&◌, ◌||◌, not, if◌then◌else◌, nat_eq, Option, Some, None, List, [], ◌∷◌, ◌++◌, length, slice_index, slice_set, refl, ap, sym, ◌∙◌, arith, subst}
 use Rattle.std.proofs.lemmas.List.{length-set}
+use Rattle.std.proofs.Math.Bool.{or-false}
 use Rattle.qd_scheme.specs.declared.key.Key.{Key}
 use Rattle.qd_pend.specs.Slots.{SlotList, has, without}
 use Rattle.qd_pend.proofs.ListLaws.{same, equal, has-without, has-without_same, has-push}
 use Rattle.qd_slots.specs.declared.holds.Hold.{Hold}
 use Rattle.qd_slots.specs.declared.holds.Hold.TheVariants.{Free, Kept, Subscribed}
 use Rattle.qd_slots.specs.declared.holds.Cell.{Cell}
-use Rattle.qd_slots.specs.Names.{slot_in, name_at}
+use Rattle.qd_slots.specs.Names.{slot_in, name_at, named_in}
 use Rattle.qd_slots.specs.Holds.{Holdings, cell_at, order_at, hold_at, hold_in, limit_in, total_in, is_subscribed, is_kept, is_held_cell, after_end, with_hold, with_less, with_end, without_kept, less_by, IsHolding}
 use Rattle.qd_slots.specs.Kept.{with_more}
 use Rattle.qd_slots.specs.Views.{Viewing, view_at, viewing_at, view_after, view_told, view_differs, queued, queued_again, with_told, is_known_by, EachSaw, HasSlots}
@@ -15,7 +16,7 @@ use Rattle.qd_slots.proofs.HoldLaws.{holding-end, holding-let_go}
 use Rattle.qd_table.specs.Tables.{Table, slots_in, key_at, slot_for, hold_for, limit_for, order_of, total_for, pairs_in, view_for, queue_of, differs_for, total_to_tell, is_used, room_for}
 use Rattle.qd_table.specs.Steps.{is_cell, IsSame, IsEnded, IsLetGo, IsTold}
 use Rattle.qd_table.specs.Sound.{IsSound}
-use Rattle.qd_table.specs.Stored.{Store, table_of, named_in, without_unused, kept_if, IsStored}
+use Rattle.qd_table.specs.Stored.{Store, table_of, without_unused, kept_if, IsStored}
 use Rattle.qd_table.proofs.TableLaws.{unused, unused-hold, or-right, true-false, apart-numbers, key_at-subscribed}
 use Rattle.qd_table.proofs.CallSteps.{sound-ended, sound-let_go, sound-told, sound-same}
 use Rattle.qd_table.proofs.CellLaws.{total-of, slot-within}
@@ -126,10 +127,6 @@ if-slots false kept a slot b l = refl
 if-length : (keep : Bool) (kept : List SlotList) (a slot : ℕ) → length (kept_if kept a slot keep) ≡ length kept
 if-length true kept a slot = length-set kept a (with_more (order_at kept a) slot)
 if-length false kept a slot = refl
-
-or-false : (b : Bool) → (b || false) ≡ b
-or-false true = refl
-or-false false = refl
 
 pub ending-stored : {s s' : Store} (a slot : ℕ) (keep : Bool) → IsStored s → Ending s s' a slot keep → IsStored s'
 unfolding hold_for

@@ -9,14 +9,14 @@ use Rattle.qd_pend.proofs.ListLaws.{same}
 use Rattle.qd_slots.specs.declared.holds.Hold.{Hold}
 use Rattle.qd_slots.specs.declared.holds.Hold.TheVariants.{Free, Kept, Subscribed}
 use Rattle.qd_slots.specs.declared.views.View.{View}
-use Rattle.qd_slots.specs.Names.{name_at}
+use Rattle.qd_slots.specs.Names.{name_at, named_in}
 use Rattle.qd_slots.specs.Holds.{Holdings, cell_at, order_at, hold_at, total_in, is_subscribed, is_kept, with_end, with_hold, after_end}
 use Rattle.qd_slots.specs.Views.{Viewing, view_at, viewing_at, view_after, with_told, HasSlot, EachSaw}
 use Rattle.qd_table.specs.declared.table.SubFault.{SubFault}
 use Rattle.qd_table.specs.declared.table.SubFault.TheVariants.{NoMemory}
 use Rattle.qd_table.specs.Tables.{Table, keys_in, key_at, hold_for, is_wanted_slot, view_for, pairs_in, room_for, total_to_tell, want_for, fault_of}
 use Rattle.qd_table.specs.Steps.{IsSame, IsSubscribed, IsEnded, IsLetGo, IsTold, IsCause}
-use Rattle.qd_table.specs.Stored.{Store, table_of, named_in, IsStored}
+use Rattle.qd_table.specs.Stored.{Store, table_of, IsStored}
 use Rattle.qd_table.proofs.TableLaws.{some-from, true-false}
 use Rattle.qd_table.proofs.StandLaws.{total_for-some}
 use Rattle.qd_table.proofs.CellLaws.{total-cell}

@@ -8,13 +8,13 @@ use Rattle.qd_slots.specs.declared.holds.Hold.{Hold}
 use Rattle.qd_slots.specs.declared.holds.Hold.TheVariants.{Free, Kept, Subscribed}
 use Rattle.qd_slots.specs.declared.holds.Cell.{Cell}
 use Rattle.qd_slots.specs.declared.views.View.{View}
-use Rattle.qd_slots.specs.Names.{slot_in, name_at}
+use Rattle.qd_slots.specs.Names.{slot_in, name_at, named_in}
 use Rattle.qd_slots.specs.Holds.{no_order, cell_at, order_at, hold_at, total_in, is_subscribed, is_kept, is_held_cell, with_hold, with_limit, with_last, with_less, with_subscription, more_by}
 use Rattle.qd_slots.specs.Views.{Viewing, no_viewing, view_at, viewing_at, view_after, view_told, view_differs, queued, with_told, is_known_by, EachSaw, HasSlots}
 use Rattle.qd_slots.proofs.HoldLaws.{holding-subscribe}
 use Rattle.qd_table.specs.Tables.{slots_in, key_at, slot_for, hold_for, limit_for, order_of, total_for, is_wanted_slot, pairs_in, view_for, queue_of, differs_for, is_used, room_for}
 use Rattle.qd_table.specs.Steps.{is_cell, KeepsUsed, IsSubscribed}
-use Rattle.qd_table.specs.Stored.{Store, table_of, named_in, without_unused, IsStored}
+use Rattle.qd_table.specs.Stored.{Store, table_of, without_unused, IsStored}
 use Rattle.qd_table.proofs.TableLaws.{below-any, apart-numbers}
 use Rattle.qd_table.proofs.StandLaws.{total_for-some}
 use Rattle.qd_table.proofs.CallSteps.{cell-here, sound-subscribed}

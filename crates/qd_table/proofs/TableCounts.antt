@@ -1,6 +1,7 @@
 -- The numbers by which an Add is judged are those of the held keys and pairs of the moment, for any definition of held that agrees with the table.
 use Rattle.std.proofs.Common.{◌≡◌, ◌⊎◌, inl, inr, ℕ, suc, ◌+◌, Bool, true, false, ◌&&◌, ◌||◌, not, if◌then◌else◌, nat_lt, Option, Some, None, is_some, List, [], ◌∷◌, length, map, refl, ap, sym, ◌∙◌, arith}
 use Rattle.std.specs.List.{list_any, filter}
+use Rattle.std.proofs.lemmas.Bool.{not-true}
 use Rattle.qd_scheme.specs.declared.key.Key.{Key}
 use Rattle.qd_scheme.specs.Keys.{key_eq}
 use Rattle.qd_scheme.proofs.KeyLaws.{key_eq-true, key_eq-same, key_eq-comm}
@@ -11,13 +12,12 @@ use Rattle.qd_sub.specs.Watching.{known}
 use Rattle.qd_sub.specs.Holding.{has_key, fresh}
 use Rattle.qd_sub.proofs.OrderLaws.{once, once-filter, any-filter}
 use Rattle.qd_sub.proofs.StepLaws.{pair_eq}
-use Rattle.qd_slots.specs.Names.{name_at}
+use Rattle.qd_slots.specs.Names.{name_at, named_in}
 use Rattle.qd_slots.specs.Holds.{is_held}
 use Rattle.qd_table.specs.declared.table.SubFault.TheVariants.{TooManyKeys, TooManySubs}
 use Rattle.qd_table.specs.Tables.{Table, key_at, slot_for, keys_in, keys_held, hold_for, holds_by, pairs_in, too_many_keys, too_many_subs, fault_of}
 use Rattle.qd_table.specs.Sound.{IsSound}
 use Rattle.qd_table.specs.Standing.{StandsFor}
-use Rattle.qd_table.specs.Stored.{named_in}
 use Rattle.qd_table.proofs.TableLaws.{true-false, some-same, or-left, same-truth, some-from, key_at-found, used-holder}
 use Rattle.qd_table.proofs.FreshLaws.{but-alone}
 use Rattle.qd_table.proofs.ListLaws.{once-each}
@@ -32,10 +32,6 @@ and-left false b h = cc
 and-right : (a b : Bool) → (a && b) ≡ true → b ≡ true
 and-right true b h = h
 and-right false b h = cc
-
-not-true : (b : Bool) → not b ≡ true → b ≡ false
-not-true true h = sym h
-not-true false h = refl
 
 length-less : (k : Key) (ks : List Key) → once key_eq ks ≡ true → has_key ks k ≡ true → length ks ≡ suc (length (filter (λ j. not (key_eq k j)) ks))
 unfolding once

@@ -1,10 +1,9 @@
 -- How a table is stored.
 use Rattle.std.specs.Prelude.{ℕ, ◌≡◌, ◌+◌, ◌^◌, ◌<◌, ◌≤◌, Bool, true, ◌||◌, if◌then◌else◌, Option, None, List, length, slice_set}
-use Rattle.std.specs.List.{filter_map}
 use Rattle.qd_scheme.specs.declared.key.Key.{Key}
 use Rattle.qd_pend.specs.Slots.{SlotList, has}
 use Rattle.qd_slots.specs.declared.holds.Cell.{Cell}
-use Rattle.qd_slots.specs.Names.{NameList}
+use Rattle.qd_slots.specs.Names.{NameList, named_in}
 use Rattle.qd_slots.specs.Holds.{Holdings, cell_at, order_at, hold_at, is_held_cell, is_kept, is_subscribed, IsHolding}
 use Rattle.qd_slots.specs.Kept.{with_more}
 use Rattle.qd_slots.specs.Views.{Viewing, is_known_by, HasSlots}
@@ -24,10 +23,6 @@ pub record Store : Type 0 where
 -- the table that they make
 abbrev pub table_of : Store → Table
 table_of s = record { names = s.names.names; holdings = s.holdings; viewings = s.viewings; agent = s.agent; room = s.room }
-
--- the keys of a list of slots
-abbrev pub named_in : List (Option Key) → List Key
-named_in names = filter_map (λ name. name) names
 
 -- the slot is freed where nobody has anything of it and no watcher knows a total of it
 abbrev pub without_unused : List (Option Key) → List Cell → List Viewing → ℕ → List (Option Key)

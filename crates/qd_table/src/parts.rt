@@ -2,11 +2,11 @@
 
 ghost use Rattle.std.specs.Prelude.{◌≡◌, ◌⊎◌, ◌<◌, ◌≤◌, ◌+◌, ◌^◌, false, Some, None, length, OnOk, OnErr, if◌then◌else◌, slice_set};
 ghost use Rattle.qd_pend.specs.Slots.{has};
-ghost use Rattle.qd_slots.specs.Names.{slot_in, name_at, IsGrown};
+ghost use Rattle.qd_slots.specs.Names.{slot_in, name_at, IsGrown, named_in};
 ghost use Rattle.qd_slots.specs.Holds.{order_at, cell_at, is_held_cell, IsRoomier};
 ghost use Rattle.qd_slots.specs.Kept.{with_more, KeepsRoom};
 ghost use Rattle.qd_slots.specs.Views.{is_known_by, HasSlot, HasSlots, EachWider};
-ghost use Rattle.qd_table.specs.Stored.{named_in, without_unused, kept_if};
+ghost use Rattle.qd_table.specs.Stored.{without_unused, kept_if};
 
 use qd_scheme::Key;
 use qd_slots::{Holds, Kept, Names, Watchers};

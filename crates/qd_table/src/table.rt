@@ -256,7 +256,7 @@ impl SubTable {
         total.is_none()
     }
 
-    /// The first slot that the agent keeps without a subscription.
+    /// A slot that the agent keeps without a subscription.
     pub fn first_kept(&self, agent: AgentNo) -> Option<u32>
         ensures kept { IfSome result (λ slot. is_kept (hold_for self.now agent slot) ≡ true) }
         ensures none { IfNone result ((slot : ℕ) → is_kept (hold_for self.now agent slot) ≡ false) }

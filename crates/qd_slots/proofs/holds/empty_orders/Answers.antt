@@ -1,4 +1,3 @@
-use Rattle.std.proofs.Common.{◌∙◌, ap, sym, arith}
 use Rattle.qd_slots.proofs.HoldLaws.{orders-more}
 use Rattle.qd_slots.proofs.holds.empty_orders.Goals as goal
 

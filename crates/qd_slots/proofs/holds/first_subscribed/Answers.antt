@@ -1,5 +1,5 @@
-use Rattle.std.proofs.Common.{◌∙◌, sym, ap, arith, ◌+◌, ◌<◌, add-one, length, drop}
-use Rattle.qd_slots.specs.Holds.{is_subscribed, subscribed_from}
+use Rattle.std.proofs.Common.{◌∙◌, sym, ap, arith, add-one, drop}
+use Rattle.qd_slots.specs.Holds.{subscribed_from}
 use Rattle.qd_slots.proofs.HoldLaws.{from-yes, from-no, from-end}
 use Rattle.qd_slots.proofs.holds.first_subscribed.Goals as goal
 

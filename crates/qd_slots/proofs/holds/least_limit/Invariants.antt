@@ -1,4 +1,4 @@
-use Rattle.std.proofs.Common.{◌≡◌, drop, length}
+use Rattle.std.proofs.Common.{◌≡◌, drop}
 use Rattle.qd_sub.specs.Subscriptions.{least}
 use Rattle.qd_slots.specs.Holds.{limits_of, lesser_of}
 use Rattle.qd_slots.proofs.holds.least_limit.Given as goal

@@ -1,6 +1,6 @@
-use Rattle.std.proofs.Common.{◌≡◌, ◌∙◌, ◌-◌, ◌++◌, ◌+◌, ◌∷◌, [], ap, sym, subst, arith, length, vec_len, List, ℕ, refl}
+use Rattle.std.proofs.Common.{◌≡◌, ◌∙◌, ◌-◌, ◌++◌, ◌∷◌, [], ap, sym, subst, arith, length, vec_len, List, ℕ, refl}
 use Rattle.std.proofs.lemmas.List.{length-append}
-use Rattle.qd_pend.specs.Slots.{has, EachOnce}
+use Rattle.qd_pend.specs.Slots.{EachOnce}
 use Rattle.qd_pend.proofs.ListLaws.{EachOnce-push}
 use Rattle.qd_slots.specs.Names.{nones}
 use Rattle.qd_slots.proofs.IndexLaws.{none-yet, one-more, vacant-more, vacant-absent}

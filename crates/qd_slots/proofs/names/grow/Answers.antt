@@ -1,4 +1,4 @@
-use Rattle.std.proofs.Common.{◌≡◌, ◌∙◌, ap, sym, arith}
+use Rattle.std.proofs.Common.{arith}
 use Rattle.qd_slots.proofs.IndexLaws.{ready-none}
 use Rattle.qd_slots.proofs.names.grow.Goals as goal
 

@@ -1,5 +1,5 @@
-use Rattle.std.proofs.Common.{◌∙◌, ◌<◌, sym, arith}
-use Rattle.qd_slots.specs.Views.{viewing_at, IsWider}
+use Rattle.std.proofs.Common.{◌∙◌, arith}
+use Rattle.qd_slots.specs.Views.{viewing_at}
 use Rattle.qd_slots.proofs.ViewLaws.{wider-same, wider-step, room-step}
 use Rattle.qd_slots.proofs.watchers.reserve_all.Goals as goal
 

@@ -1,7 +1,7 @@
 use Rattle.std.proofs.Common.{◌≡◌, ◌∙◌, sym, ap, arith, Some, length}
-use Rattle.qd_slots.specs.Names.{name_at}
-use Rattle.qd_table.specs.Stored.{named_in}
-use Rattle.qd_table.proofs.CellSteps.{named-less, name-within}
+use Rattle.qd_slots.specs.Names.{name_at, named_in}
+use Rattle.qd_slots.proofs.NameLaws.{named-less}
+use Rattle.qd_table.proofs.CellSteps.{name-within}
 use Rattle.qd_table.proofs.parts.free_unused.Goals as goal
 
 pub returns-in-Some-clause-counted : goal.returns-in-Some-clause-counted

@@ -1,7 +1,7 @@
 use Rattle.std.proofs.Common.{ap, arith, length}
-use Rattle.qd_table.specs.Stored.{named_in}
-use Rattle.qd_table.proofs.CellSteps.{named-more}
 use Rattle.qd_table.proofs.parts.slot_or_new.Goals as goal
+use Rattle.qd_slots.specs.Names.{named_in}
+use Rattle.qd_slots.proofs.NameLaws.{named-more}
 
 pub returns-in-None-clause-counted : goal.returns-in-None-clause-counted
 returns-in-None-clause-counted c =

@@ -1,5 +1,5 @@
-use Rattle.std.proofs.Common.{◌≡◌, ◌<◌, ◌∙◌, ap, arith, length, slice_set}
-use Rattle.qd_slots.specs.Holds.{with_hold, cell_at, is_subscribed, after_end}
+use Rattle.std.proofs.Common.{◌<◌, ◌∙◌, ap, arith, length}
+use Rattle.qd_slots.specs.Holds.{is_subscribed}
 use Rattle.qd_slots.proofs.HoldLaws.{holding-end, after_end-none}
 use Rattle.qd_slots.proofs.holds.Holds.end.Goals as goal
 

@@ -1,4 +1,4 @@
-use Rattle.std.proofs.Common.{◌≡◌, ◌<◌, ◌∙◌, arith, length}
+use Rattle.std.proofs.Common.{◌<◌, arith, length}
 use Rattle.qd_slots.proofs.HoldLaws.{holding-room, holding-free, roomier-err, roomier-ok}
 use Rattle.qd_slots.proofs.holds.Holds.reserve.Goals as goal
 

@@ -1,4 +1,4 @@
-use Rattle.std.proofs.Common.{◌≡◌, ◌<◌, ◌∙◌, ap, arith, length}
+use Rattle.std.proofs.Common.{◌<◌, ◌∙◌, ap, arith, length}
 use Rattle.qd_slots.specs.Holds.{hold_at}
 use Rattle.qd_slots.proofs.HoldLaws.{holding-subscribed, subscribed-shown}
 use Rattle.qd_slots.proofs.holds.Holds.subscribe.Goals as goal

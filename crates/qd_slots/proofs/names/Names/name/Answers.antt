@@ -1,4 +1,4 @@
-use Rattle.std.proofs.Common.{◌≡◌, ◌<◌, ◌∙◌, ap, sym, arith, Some, None, length, subst, List, Option}
+use Rattle.std.proofs.Common.{◌≡◌, ◌<◌, ◌∙◌, ap, sym, arith, None, length, subst, List, Option}
 use Rattle.qd_scheme.specs.declared.key.Key.{Key}
 use Rattle.qd_slots.specs.Names.{name_at, slot_in}
 use Rattle.qd_slots.proofs.IndexLaws.{indexed-name, free-within, free-vacant}

@@ -1,4 +1,3 @@
-use Rattle.std.proofs.Common.{◌≡◌, ◌∙◌, ap, sym, arith}
 use Rattle.qd_slots.proofs.IndexLaws.{grown-none, indexed-reserved}
 use Rattle.qd_slots.proofs.names.Names.reserve.Goals as goal
 

@@ -1,4 +1,4 @@
-use Rattle.std.proofs.Common.{◌≤◌, arith}
+use Rattle.std.proofs.Common.{arith}
 use Rattle.qd_slots.proofs.ViewLaws.{wider-queue}
 use Rattle.qd_slots.proofs.views.Watcher.reserve.Goals as goal
 
