@@ -1,5 +1,5 @@
 //! Entries in falling order of index.
-ghost use Rattle.std.specs.Prelude.{◌≡◌, ◌+◌, ◌^◌, ◌<◌, ◌≤◌, ◌↔◌, [], length, slice_get, OnOk, IsTrue};
+ghost use Rattle.std.specs.Prelude.{◌≡◌, ◌+◌, ◌^◌, ◌<◌, ◌≤◌, ◌↔◌, [], length, max, slice_get, OnOk, IsTrue};
 ghost use Rattle.qd_entries.specs.Entries.{Falls, cells_at, entry_at_or_below, put_entry, without_index};
 
 use crate::Entry;
@@ -52,6 +52,7 @@ impl Entries {
         self.tree.len() as u32
     }
 
+    /// Whether there are no entries.
     pub fn is_empty(&self) -> bool
         ensures { IsTrue result ↔ (self.now.entries ≡ []) }
     {
@@ -91,6 +92,7 @@ impl Entries {
         ensures ok { OnOk result (entries ≤ self.new.spare) }
         ensures entries { self.new.entries ≡ self.old.entries }
         ensures spare { self.old.spare ≤ self.new.spare }
+        ensures most { self.new.spare ≤ max self.old.spare entries }
     {
         self.stock.fill(self.tree.len(), u64::from(entries))
     }

@@ -1,5 +1,5 @@
 //! Nodes in stock: what an ordered list puts new entries into, so that it takes no memory then.
-ghost use Rattle.std.specs.Prelude.{◌≡◌, ◌+◌, ◌^◌, ◌<◌, ◌≤◌, [], length, OnOk, OnErr};
+ghost use Rattle.std.specs.Prelude.{◌≡◌, ◌+◌, ◌^◌, ◌<◌, ◌≤◌, [], length, max, OnOk, OnErr};
 ghost use Rattle.qd_entries.specs.Nodes.{node_count};
 
 use crate::tree::{Link, Node, Tree};
@@ -116,6 +116,7 @@ impl Stock {
         requires few { spare < 2 ^ 32 }
         ensures ok { OnOk result (spare ≤ self.new.spare) }
         ensures spare { self.old.spare ≤ self.new.spare }
+        ensures most { self.new.spare ≤ max self.old.spare spare }
         ensures room { self.new.spare + used ≤ self.new.room }
         ensures few { self.new.room < 2 ^ 32 }
     {

@@ -12,6 +12,7 @@ pub struct FileSource<'a, F: Files> {
 }
 
 impl<'a, F: Files> FileSource<'a, F> {
+    /// The file that is read, from where it was read to.
     pub fn new(files: &'a mut F) -> FileSource<'a, F>
         requires { (F.told files.old).is_reading ≡ true }
         ensures same_files { result.files.ghost_name ≡ files.entry.ghost_name }

@@ -46,6 +46,7 @@ pub struct SoundFiles {
 }
 
 impl SoundFiles {
+    /// Files in which every name has this text.
     pub fn new(text: Vec<u8>) -> SoundFiles
         ensures { ⟦<SoundFiles as Files>⟧.told result
             ≡ told_at_first (Some (λ name. Some text.items)) (Some []) None None }

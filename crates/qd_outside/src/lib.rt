@@ -5,12 +5,11 @@
 //!
 //! Beside each trait stand the one in memory whose calls fail by a plan ([`ListSource`], [`ListSink`], [`ListFiles`]),
 //! the one that never fails ([`SoundSource`], [`SoundSink`], [`SoundFiles`]), and the adapter over the real thing
-//! ([`Reading`], [`Writing`], [`RealFiles`]). [`InBuffer`] and [`OutBuffer`] move bytes in large pieces.
+//! ([`Reading`], [`Writing`], [`RealFiles`]). [`OutBuffer`] writes bytes in large pieces.
 #![tactic(auto)]
 
 mod file_source;
 mod files;
-mod in_buffer;
 mod list_files;
 mod memory;
 mod out_buffer;
@@ -22,7 +21,6 @@ mod source;
 
 pub use file_source::FileSource;
 pub use files::{Files, SoundFiles};
-pub use in_buffer::{Fill, InBuffer};
 pub use list_files::{Asked, HeldFile, ListFiles};
 pub use memory::{ListSink, ListSource, SoundSink, SoundSource};
 pub use out_buffer::OutBuffer;

@@ -39,6 +39,7 @@ pub struct ListFiles {
 }
 
 impl ListFiles {
+    /// These files, of which a call fails where the plan has `true` at its number, from 0.
     pub fn new(alloc: Global, files: Vec<HeldFile>, plan: Vec<bool>) -> ListFiles
         ensures { ⟦<ListFiles as Files>⟧.told result
             ≡ told_at_first (Some (held_in files.items)) (Some []) (Some []) (Some []) }
@@ -59,12 +60,14 @@ impl ListFiles {
         }
     }
 
+    /// What was written since the last `open_out`.
     pub fn written(&self) -> &[u8]
         ensures { (⟦<ListFiles as Files>⟧.told self.now).written ≡ Some result.now }
     {
         &self.written
     }
 
+    /// The calls that opened, oldest first.
     pub fn asked(&self) -> &[Asked]
         ensures { (⟦<ListFiles as Files>⟧.told self.now).asked ≡ Some (map opening_of result.now) }
     {

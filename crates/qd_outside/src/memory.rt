@@ -16,6 +16,7 @@ pub struct ListSource {
 }
 
 impl ListSource {
+    /// A source of these bytes, of which a read fails where the plan has `true` at its number, from 0.
     pub fn new(bytes: Vec<u8>, plan: Vec<bool>) -> ListSource
         ensures left { ⟦<ListSource as Source>⟧.left result ≡ Some bytes.items }
         ensures faults { ⟦<ListSource as Source>⟧.faults result ≡ 0 }
@@ -62,6 +63,7 @@ pub struct SoundSource {
 }
 
 impl SoundSource {
+    /// A source of these bytes.
     pub fn new(bytes: Vec<u8>) -> SoundSource
         ensures left { ⟦<SoundSource as Source>⟧.left result ≡ Some bytes.items }
         ensures faults { ⟦<SoundSource as Source>⟧.faults result ≡ 0 }
@@ -101,6 +103,7 @@ pub struct ListSink {
 }
 
 impl ListSink {
+    /// A sink to which nothing is written; a call fails where the plan has `true` at its number, from 0.
     pub fn new(alloc: Global, plan: Vec<bool>) -> ListSink
         ensures written { ⟦<ListSink as Sink>⟧.written result ≡ Some [] }
         ensures flushed { ⟦<ListSink as Sink>⟧.flushed result ≡ true }
@@ -114,12 +117,14 @@ impl ListSink {
         }
     }
 
+    /// What was written.
     pub fn written(&self) -> &[u8]
         ensures { ⟦<ListSink as Sink>⟧.written self.now ≡ Some result.now }
     {
         &self.written
     }
 
+    /// Whether all that was written is flushed. A new sink counts as flushed.
     pub fn is_flushed(&self) -> bool
         ensures { result ≡ ⟦<ListSink as Sink>⟧.flushed self.now }
     {
@@ -162,6 +167,7 @@ pub struct SoundSink {
 }
 
 impl SoundSink {
+    /// A sink to which nothing is written.
     pub fn new() -> SoundSink
         ensures written { ⟦<SoundSink as Sink>⟧.written result ≡ None }
         ensures flushed { ⟦<SoundSink as Sink>⟧.flushed result ≡ true }
