@@ -10,6 +10,7 @@ pub mod Formed
 pub mod Fractions
 pub mod OnePass
 pub mod Places
+pub mod Short
 pub mod Shapes
 pub mod Shortest
 pub mod Values

@@ -46,7 +46,7 @@ reach_small : (b : Bool) → reach b < 2 ^ 64
 reach_small true = omega arith
 reach_small false = omega arith
 
-no_point : (n : ℕ) → magnitude_text 0 n ≡ decimal n
+pub no_point : (n : ℕ) → magnitude_text 0 n ≡ decimal n
 unfolding magnitude_text
 no_point n =
     let q : n / 1 ≡ n = omega arith in

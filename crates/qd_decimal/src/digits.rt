@@ -1,4 +1,4 @@
-ghost use Rattle.std.specs.Prelude.{◌≡◌, ◌+◌, ◌-◌, ◌*◌, ◌/◌, ◌%◌, ◌^◌, ◌<◌, ◌≤◌, length, min, slice_range, Some};
+ghost use Rattle.std.specs.Prelude.{◌≡◌, ◌+◌, ◌-◌, ◌*◌, ◌/◌, ◌%◌, ◌^◌, ◌<◌, ◌≤◌, nat_le, true, length, min, slice_range, Some};
 ghost use Rattle.qd_decimal.specs.Grammar.{is_digit};
 ghost use Rattle.qd_decimal.specs.Numbers.{with_digit, with_digits, times};
 ghost use Rattle.qd_decimal.specs.Reading.{digits_end, zeros_end};
@@ -14,6 +14,16 @@ fn is_digit(byte: u8) -> bool
     ensures { result ≡ is_digit byte }
 {
     byte >= b'0' && byte <= b'9'
+}
+
+/// What a digit counts, and more than 9 for another byte.
+// In 64 bits the machine tests and adds the same value.
+#[inline]
+fn digit_of(byte: u8) -> u64
+    ensures digit { is_digit byte ≡ nat_le result 9 }
+    ensures value { is_digit byte ≡ true → result ≡ byte - 48 }
+{
+    u64::from(byte).wrapping_sub(48)
 }
 
 fn with_digit(number: Option<u64>, digit: u8) -> Option<u64>
@@ -66,12 +76,16 @@ pub(crate) fn short_run(number: u64, text: &[u8], from: usize, to: usize) -> Sta
     ensures forward { from ≤ result.end }
     ensures within { result.end ≤ to }
     ensures digits { result.end ≤ digits_end text.now from }
-    ensures few { (result.number + 1) * 10 ^ (to - result.end) ≤ 10 ^ 18 }
+    ensures few { result.number + 1 ≤ (number + 1) * 10 ^ (result.end - from) }
 {
     let mut at = from;
     let mut value = number;
-    while at < to && is_digit(text[at]) {
-        value = value * 10 + u64::from(text[at] - b'0');
+    while at < to {
+        let digit = digit_of(text[at]);
+        if digit > 9 {
+            break;
+        }
+        value = value * 10 + digit;
         at += 1;
     }
     Start {
@@ -151,25 +165,27 @@ pub(crate) fn times(number: Option<u64>, power: u64) -> Option<u64>
     number?.checked_mul(power)
 }
 
+const POWERS: [u64; 10] = [
+    1,
+    10,
+    100,
+    1_000,
+    10_000,
+    100_000,
+    1_000_000,
+    10_000_000,
+    100_000_000,
+    1_000_000_000,
+];
+
 /// What one place of a number's fraction counts for.
-#[tactic(auto, using(crate::proofs::Fractions::power_positive))]
+#[tactic(auto, using(crate::proofs::Fractions::power_there, crate::proofs::Fractions::power_positive))]
 pub(crate) fn power_of_ten(exponent: u8) -> u64
     requires { exponent ≤ 9 }
     ensures value { result ≡ 10 ^ exponent }
     ensures positive { 0 < result }
 {
-    match exponent {
-        0 => 1,
-        1 => 10,
-        2 => 100,
-        3 => 1_000,
-        4 => 10_000,
-        5 => 100_000,
-        6 => 1_000_000,
-        7 => 10_000_000,
-        8 => 100_000_000,
-        _ => 1_000_000_000,
-    }
+    POWERS[usize::from(exponent)]
 }
 
 /// A number cut before its last digits.

@@ -76,17 +76,28 @@ impl Line {
 
     /// Appends what stands in a buffer from `start` up to its middle, unless there is too little room. Where there is room for
     /// any, half a buffer is copied at once; what is too much lies behind the line's end.
+    #[inline(always)]
     pub(crate) fn append_short(&mut self, buffer: &[u8; 64], start: usize) -> bool
         requires { start ≤ 32 }
         ensures room { result ≡ nat_le (length self.old + (32 - start)) 4096 }
         ensures appended { self.new ≡ (if result then self.old ++ take (32 - start) (drop start buffer.now) else self.old) }
     {
         if self.len > 4064 {
-            return self.append(&buffer[start..32]);
+            return self.append_aside(buffer, start);
         }
         let end = self.len + 32;
         self.bytes[self.len..end].copy_from_slice(&buffer[start..start + 32]);
         self.len = end - start;
         true
+    }
+
+    /// The same, where the room may be too small.
+    #[inline(never)]
+    fn append_aside(&mut self, buffer: &[u8; 64], start: usize) -> bool
+        requires { start ≤ 32 }
+        ensures room { result ≡ nat_le (length self.old + (32 - start)) 4096 }
+        ensures appended { self.new ≡ (if result then self.old ++ take (32 - start) (drop start buffer.now) else self.old) }
+    {
+        self.append(&buffer[start..32])
     }
 }

@@ -21,9 +21,27 @@ pub fn write_count(value: u64, out: &mut Line) -> bool
     out.append_short(&buffer, start)
 }
 
-/// Appends a TAB and the canonical text of a count, unless there is too little room for both.
-#[tactic(auto, using(crate::proofs::Fractions::count_short, crate::proofs::Copies::short_room, crate::proofs::Copies::short_appended))]
+/// Appends a TAB and the canonical text of a count, unless there is too little room for both. A count of one or two digits,
+/// as most are, takes no buffer.
+#[inline(always)]
 pub fn write_count_part(value: u64, out: &mut Line) -> bool
+    ensures room { result ≡ nat_le (length out.old + length (9 ∷ decimal value)) 4096 }
+    ensures appended { out.new ≡ (if result then out.old ++ 9 ∷ decimal value else out.old) }
+{
+    if value < 10 {
+        return out.append(&[b'\t', b'0' + value as u8]);
+    }
+    if value < 100 {
+        let tens = b'0' + (value / 10) as u8;
+        let ones = b'0' + (value % 10) as u8;
+        return out.append(&[b'\t', tens, ones]);
+    }
+    write_long_part(value, out)
+}
+
+/// Appends a TAB and the canonical text of any count, unless there is too little room for both.
+#[tactic(auto, using(crate::proofs::Fractions::count_short, crate::proofs::Copies::short_room, crate::proofs::Copies::short_appended))]
+fn write_long_part(value: u64, out: &mut Line) -> bool
     ensures room { result ≡ nat_le (length out.old + length (9 ∷ decimal value)) 4096 }
     ensures appended { out.new ≡ (if result then out.old ++ 9 ∷ decimal value else out.old) }
 {
@@ -135,8 +153,22 @@ pub fn write_dec(value: i64, scale: u8, out: &mut Line) -> bool
 }
 
 /// Appends a TAB and the canonical text of a decimal number, unless there is too little room for both.
-#[tactic(auto, using(crate::proofs::Copies::short_room, crate::proofs::Copies::short_appended))]
+#[inline(always)]
+#[tactic(auto, using(crate::proofs::Short::whole_room, crate::proofs::Short::whole_appended))]
 pub fn write_dec_part(value: i64, scale: u8, out: &mut Line) -> bool
+    requires { scale ≤ 9 }
+    ensures room { result ≡ nat_le (length out.old + length (9 ∷ dec_text scale value)) 4096 }
+    ensures appended { out.new ≡ (if result then out.old ++ 9 ∷ dec_text scale value else out.old) }
+{
+    if scale == 0 && value >= 0 {
+        return write_count_part(value.unsigned_abs(), out);
+    }
+    write_any_part(value, scale, out)
+}
+
+/// Appends a TAB and the canonical text of a decimal number of any sign and scale, unless there is too little room for both.
+#[tactic(auto, using(crate::proofs::Copies::short_room, crate::proofs::Copies::short_appended))]
+fn write_any_part(value: i64, scale: u8, out: &mut Line) -> bool
     requires { scale ≤ 9 }
     ensures room { result ≡ nat_le (length out.old + length (9 ∷ dec_text scale value)) 4096 }
     ensures appended { out.new ≡ (if result then out.old ++ 9 ∷ dec_text scale value else out.old) }

@@ -12,7 +12,7 @@ invariant-loop-at l = record {
   forward : l.from ≤ l.at;
   within : l.at ≤ l.to;
   small : l.value < 1000000000000000000;
-  few : (l.value + 1) * 10 ^ (l.to - l.at) ≤ 10 ^ 18;
+  few : l.value + 1 ≤ (l.fn.number + 1) * 10 ^ (l.at - l.from);
 }
 
 abbrev pub decreases-loop-at : goal.decreases-loop-at
