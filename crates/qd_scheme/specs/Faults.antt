@@ -42,7 +42,6 @@ record_fault before def = option_or (name_fault def.name (list_any (λ d. name_e
 unfoldable pub scheme_fault : List RecordDef → Option SchemeFault
 scheme_fault defs = if nat_lt 64 (length defs) then Some (Wrong 64 TooManyRecords) else option_map (λ wrong. Wrong wrong.0 wrong.1) (first_wrong record_fault 0 [] defs)
 
--- what a refusal tells: the fault of the records, or want of memory, which says nothing of them
+-- what a refusal tells: the fault of the records, and want of memory only where they have none
 abbrev pub IsFaultOf : List RecordDef → SchemeFault → Type 0
-IsFaultOf defs (Wrong rec why) = scheme_fault defs ≡ Some (Wrong rec why)
-IsFaultOf defs NoMemory = Unit {0}
+IsFaultOf defs fault = option_or (scheme_fault defs) (Some NoMemory) ≡ Some fault

@@ -52,6 +52,7 @@ impl Cells {
         })
     }
 
+    /// The values, in the order of the record's fields.
     pub fn values(&self) -> &[i64]
         ensures values { result.now ≡ self.now }
         ensures within { length self.now ≤ 16 }
@@ -59,6 +60,7 @@ impl Cells {
         &self.values[..usize::from(self.len)]
     }
 
+    /// One more value at the end; the caller sees to it that there are at most 16.
     pub fn push(&mut self, value: i64)
         requires { length self.old < 16 }
         ensures { self.new ≡ self.old ++ value ∷ [] }

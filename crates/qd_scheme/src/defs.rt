@@ -53,6 +53,7 @@ impl Fields {
         Ok(())
     }
 
+    /// The fields, in the order of a record's cells.
     pub fn as_slice(&self) -> &[FieldDef]
         ensures { result.now ≡ self.now }
     {

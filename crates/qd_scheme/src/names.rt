@@ -22,6 +22,7 @@ impl Model for Name {
 }
 
 impl Name {
+    /// A name of these bytes. `Scheme::new` judges whether they may name something.
     pub fn new(alloc: Global, bytes: &[u8]) -> Result<Name, NoMemory>
         ensures { IfOk result (λ name. name ≡ bytes.now) }
     {
@@ -29,6 +30,7 @@ impl Name {
         Ok(Name { text })
     }
 
+    /// The bytes of the name.
     pub fn bytes(&self) -> &[u8]
         ensures { result.now ≡ self.now }
     {

@@ -34,6 +34,7 @@ impl AgentNo {
         }
     }
 
+    /// The number, at most 127.
     pub fn get(&self) -> u8
         ensures value { result ≡ self.now }
         ensures within { self.now ≤ 127 }
@@ -73,6 +74,7 @@ impl WatcherNo {
         }
     }
 
+    /// The number, at most 7.
     pub fn get(&self) -> u8
         ensures value { result ≡ self.now }
         ensures within { self.now ≤ 7 }

@@ -59,6 +59,7 @@ impl Scheme {
         number_of_record(self.defs.as_slice(), self.codes.as_slice(), name)
     }
 
+    /// The record of a number, from 0 in the order of the list.
     pub fn def(&self, rec: u32) -> Option<&RecordDef>
         ensures def { option_copied result ≡ slice_get self.now rec }
         ensures scheme { IsScheme self.now }
@@ -66,6 +67,7 @@ impl Scheme {
         self.defs.as_slice().get(rec as usize)
     }
 
+    /// How many records there are, at most 64.
     pub fn len(&self) -> u32
         ensures len { result ≡ length self.now }
         ensures scheme { IsScheme self.now }

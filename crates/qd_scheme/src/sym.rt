@@ -46,6 +46,7 @@ impl Sym {
         })
     }
 
+    /// The text of the symbol, 1 to 64 bytes.
     pub fn bytes(&self) -> &[u8]
         ensures bytes { result.now ≡ self.now }
         ensures symbol { IsSymbol self.now }

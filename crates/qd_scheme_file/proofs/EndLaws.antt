@@ -1,10 +1,12 @@
 -- How the reading of a scheme file goes on and ends.
-use Rattle.std.proofs.Common.{◌≡◌, ℕ, zero, suc, ◌+◌, ◌-◌, ◌<◌, ◌≤◌, ◌^◌, Bool, true, false, cond, List, [], ◌∷◌, ◌++◌, length, refl, sym, ◌∙◌, ap, subst, arith, inl, inr, length-append, append_assoc}
-use Rattle.std.specs.Prelude.{◌==◌, Result, Ok, Err, Option, Some, None, is_ok, is_err, ◌⊎◌, slice_get, slice_index}
+use Rattle.std.proofs.Common.{◌≡◌, ℕ, zero, suc, ◌+◌, ◌-◌, ◌<◌, ◌≤◌, ◌^◌, Bool, true, false, cond, List, [], ◌∷◌, ◌++◌, length, take, refl, sym, ◌∙◌, ap, subst, arith, inl, inr, length-append, append_assoc}
+use Rattle.std.specs.Prelude.{◌==◌, not, nat_eq, Result, Ok, Err, Option, Some, None, is_ok, is_err, ◌⊎◌, slice_get, slice_index}
+use Rattle.std.proofs.lemmas.Bool.{cases_lt, eqb-true, eqb-false}
 use Rattle.std.proofs.lemmas.List.{append-nil}
 use Rattle.qd_grammar.specs.declared.fault.Fault.{Fault}
 use Rattle.qd_line.specs.Held.{Held}
 use Rattle.qd_line.specs.Lines.{is_one_line, without_cr}
+use Rattle.qd_line.proofs.Feeds.{and_right}
 use Rattle.qd_line.specs.Cutter.{GivesLine, IsHungry, IsTooLong}
 use Rattle.qd_outside.specs.Reading.{Took, IsSpent}
 use Rattle.qd_outside.specs.Causes.{Rose}
@@ -12,7 +14,7 @@ use Rattle.qd_outside.proofs.Streams.{Took-none, Took-more}
 use Rattle.qd_scheme.specs.declared.defs.RecordDef.{RecordDef}
 use Rattle.qd_scheme.specs.Faults.{scheme_fault}
 use Rattle.qd_scheme.specs.declared.faults.SchemeFault.{SchemeFault}
-use Rattle.qd_text.specs.SchemeLines.{SchemeText, no_lines, with_line, scheme_line, IsRefusal}
+use Rattle.qd_text.specs.SchemeLines.{SchemeText, no_lines, with_line, is_record_line, scheme_line, IsLineRead, IsRefusal}
 use Rattle.qd_text.specs.declared.scheme_reader.SchemeEnd.{SchemeEnd}
 use Rattle.qd_text.specs.declared.scheme_reader.SchemeEnd.TheVariants as ends
 use Rattle.qd_scheme_file.specs.declared.no_scheme.NoScheme.{NoScheme}
@@ -96,6 +98,20 @@ hungry_open text left h = read_on-rest text [] left h.one (let s = h.short in om
 pub long_refused : (text : SchemeText) (left : List ℕ) → IsTooLong left → read_on text [] left ≡ Err (LineTooLong (text.lines + 1))
 long_refused text left h = read_on-long text [] left 4097 h.one (let l = h.long in omega arith) (omega arith) (omega arith)
 
+-- no line stands in front of bytes that are too long
+not_long : (line rest : List ℕ) (n : ℕ) → length line < n → is_one_line (take n (line ++ 10 ∷ rest)) ≡ true → ⊥
+not_long line rest zero h e = absurd (omega arith)
+not_long [] rest (suc n) h e = cc
+not_long (b ∷ line) rest (suc n) h e = not_long line rest n (omega arith) (and_right (not (nat_eq b 10)) (is_one_line (take n (line ++ 10 ∷ rest))) e)
+
+pub line_not_long : (old new : Held) (line : List ℕ) → GivesLine old new line → IsTooLong old.left → ⊥
+line_not_long old new line h l =
+    let s = h.short in
+    not_long line new.left 4097 (omega arith) (subst (λ (t : List ℕ). is_one_line (take 4097 t) ≡ true) h.stood l.one)
+
+pub hungry_not_long : (left : List ℕ) → IsHungry left → IsTooLong left → ⊥
+hungry_not_long left h l = let s = h.short in let n = l.long in absurd (omega arith)
+
 -- before the first byte
 pub nothing_taken : (text : SchemeText) (held : Held) → held ≡ record { text = []; left = []; line = 0 } → text ≡ no_lines → StandsFor text held []
 nothing_taken text held h t = rw (h, t) (record { said = refl; same = refl; few = omega arith })
@@ -158,6 +174,31 @@ full_ends before text held rest taken was left n m s e took whole same =
     let h : begun taken ≡ Ok (text, rest) = s.said ∙ e in
     record { taken = taken; took = took; within = omega arith; cause = ((whole, rw h refl), same) }
 
+-- no bytes may be read any more, or so many
+pub none_left : (taken : ℕ) (end : NoScheme) → ◌≡◌ {A = Result ℕ NoScheme} (Err end) (cond (nat_eq taken (2 ^ 40)) (Err TooMuch) (Ok (2 ^ 40 - taken))) → (taken ≡ 2 ^ 40) × (end ≡ TooMuch)
+none_left taken end e = go (nat_eq taken (2 ^ 40)) refl e
+  where
+    go : (t : Bool) → nat_eq taken (2 ^ 40) ≡ t → ◌≡◌ {A = Result ℕ NoScheme} (Err end) (cond t (Err TooMuch) (Ok (2 ^ 40 - taken))) → (taken ≡ 2 ^ 40) × (end ≡ TooMuch)
+    go true p h = (eqb-true taken (2 ^ 40) p, cc)
+    go false p h = absurd (cc)
+
+below : (taken most : ℕ) → taken ≤ most → nat_eq taken most ≡ false → taken < most
+below taken most l e = go (cases_lt taken most)
+  where
+    go : (taken < most) ⊎ (most ≤ taken) → taken < most
+    go (inl s) = s
+    go (inr s) = absurd (eqb-false taken most e (omega (arith, l, s)))
+
+pub some_left : (taken most : ℕ) → taken ≤ 2 ^ 40 → ◌≡◌ {A = Result ℕ NoScheme} (Ok most) (cond (nat_eq taken (2 ^ 40)) (Err TooMuch) (Ok (2 ^ 40 - taken))) → (0 < most) × (taken + most ≡ 2 ^ 40)
+some_left taken most l e = go (nat_eq taken (2 ^ 40)) refl e
+  where
+    go : (t : Bool) → nat_eq taken (2 ^ 40) ≡ t → ◌≡◌ {A = Result ℕ NoScheme} (Ok most) (cond t (Err TooMuch) (Ok (2 ^ 40 - taken))) → (0 < most) × (taken + most ≡ 2 ^ 40)
+    go true p h = absurd (cc)
+    go false p h =
+        let m : most ≡ 2 ^ 40 - taken = cc in
+        let s = below taken (2 ^ 40) l p in
+        (omega (arith, m, s), omega (arith, m, s))
+
 -- a read that failed, or whose piece found no memory
 pub piece_ends : (e : NoScheme) (held next : Held) (taken : List ℕ) (was mid left : Option (List ℕ)) (first before after most : ℕ)
     → Took was mid taken → length taken + most ≤ 2 ^ 40 → before ≡ first → ReadsPiece (Err e) held next most mid left before after → Ends (Err e) was left first after
@@ -176,7 +217,7 @@ piece_ends NoMemory held next taken was mid left first before after most took wi
     record {
       taken = taken ++ r.0.0;
       took = Took-more was mid left taken r.0.0 took r.0.1;
-      within = let l = r.0.2 in simp length-append (omega arith);
+      within = let l = r.0.3 in simp length-append (omega arith);
       cause = r.1 ∙ same;
     }
 
@@ -226,6 +267,17 @@ pub judged_wrong : (end : SchemeEnd) (text : SchemeText) → IsRefusal text end 
 judged_wrong (ends.Bad bad) text h = absurd h
 judged_wrong (ends.Wrong line why) text h = ap (judged text) h.1.0 ∙ ap (λ (n : ℕ). Err (Wrong n why)) (place_at text.places h.0 line h.1.1)
 judged_wrong ends.NoMemory text h = tt
+
+-- memory was wanted for records with no fault, and for a line of a record
+pub judged_forgone : (end : SchemeEnd) (text : SchemeText) → IsRefusal text end → no_scheme end ≡ NoMemory → scheme_fault text.defs ≡ None
+judged_forgone (ends.Bad bad) text h e = absurd h
+judged_forgone (ends.Wrong line why) text h e = cc
+judged_forgone ends.NoMemory text h e = h
+
+pub line_forgone : (end : SchemeEnd) (old new : SchemeText) (line : List ℕ) → IsLineRead old line (Err end) new → no_scheme end ≡ NoMemory → is_record_line line ≡ true
+line_forgone (ends.Bad bad) old new line h e = cc
+line_forgone (ends.Wrong n why) old new line h e = absurd h
+line_forgone ends.NoMemory old new line h e = h.1
 
 -- of two beginnings of a text the shorter one is a beginning of the longer one
 shorter_first : (a b x y : List ℕ) → a ++ x ≡ b ++ y → length a ≤ length b → (more : List ℕ) × (b ≡ a ++ more)

@@ -17,7 +17,7 @@ no_scheme (ends.Bad bad) = Bad bad
 no_scheme (ends.Wrong line why) = Wrong line why
 no_scheme ends.NoMemory = NoMemory
 
--- a function of the code refuses as reading does; want of memory says nothing
+-- a function of the code refuses as reading does; want of memory says nothing of what is read
 abbrev pub Refuses : {A : Type 0} → NoScheme → Result A NoScheme → Type 0
 Refuses NoMemory said = Unit {0}
 Refuses (Bad bad) said = said ≡ Err (Bad bad)
@@ -58,11 +58,11 @@ ReadsSome zero old new most was left before after = (new ≡ old) × Took was le
 ReadsSome (suc n) old new most was left before after =
     (piece : List ℕ) × (new ≡ record { text = []; left = old.left ++ piece; line = old.line }) × Took was left piece × (length piece ≡ suc n) × (suc n ≤ most) × (after ≡ before)
 
--- a piece was read, or the end of the file
+-- a piece was read, or the end of the file; memory is wanted only for bytes that were read
 abbrev pub ReadsPiece : Result ℕ NoScheme → Held → Held → ℕ → Option (List ℕ) → Option (List ℕ) → ℕ → ℕ → Type 0
 ReadsPiece (Ok n) old new most was left before after = ReadsSome n old new most was left before after
 ReadsPiece (Err ReadFault) old new most was left before after = Took was left [] × Cause (Err ReadFault) [] left before after
-ReadsPiece (Err NoMemory) old new most was left before after = ((piece : List ℕ) × Took was left piece × (length piece ≤ most)) × (after ≡ before)
+ReadsPiece (Err NoMemory) old new most was left before after = ((piece : List ℕ) × Took was left piece × (1 ≤ length piece) × (length piece ≤ most)) × (after ≡ before)
 ReadsPiece (Err (Bad bad)) old new most was left before after = ⊥
 ReadsPiece (Err (Wrong line why)) old new most was left before after = ⊥
 ReadsPiece (Err (LineTooLong line)) old new most was left before after = ⊥

@@ -1,13 +1,14 @@
-ghost use Rattle.std.specs.Prelude.{◌≡◌, ◌≤◌, ◌<◌, ◌+◌, ◌++◌, ◌∷◌, ◌^◌, ◌⊎◌, List, ℕ, [], length, Some, Result, Err, IfOk, OnOk, vec_len};
+ghost use Rattle.std.specs.Prelude.{◌≡◌, ◌≤◌, ◌<◌, ◌+◌, ◌-◌, ◌==◌, ◌++◌, ◌∷◌, ◌^◌, ◌⊎◌, if◌then◌else◌, true, List, ℕ, [], length, Some, None, Result, Ok, Err, IfOk, OnOk, vec_len};
+ghost use Rattle.qd_line.specs.Cutter.{IsTooLong};
 ghost use Rattle.qd_outside.specs.Causes.{Rose};
 ghost use Rattle.qd_scheme.specs.declared.defs.RecordDef.{RecordDef};
 ghost use Rattle.qd_scheme_file.specs.declared.no_scheme.NoScheme.{NoScheme};
-ghost use Rattle.qd_scheme_file.specs.declared.no_scheme.NoScheme.TheVariants.{NoMemory as Forgone};
+ghost use Rattle.qd_scheme_file.specs.declared.no_scheme.NoScheme.TheVariants.{LineTooLong, TooMuch, NoMemory as Forgone};
 ghost use Rattle.qd_scheme_file.specs.Ends.{Ends, Decides};
 ghost use Rattle.qd_scheme_file.specs.Told.{read_on, with_said, judged, finished};
 ghost use Rattle.qd_scheme_file.specs.Reading.{no_scheme, Answers, Gives, IsOpen, ReadsAll, ReadsPiece};
 ghost use Rattle.qd_scheme.specs.Faults.{scheme_fault};
-ghost use Rattle.qd_text.specs.SchemeLines.{scheme_line, no_lines};
+ghost use Rattle.qd_text.specs.SchemeLines.{is_record_line, scheme_line, no_lines};
 
 use crate::no_scheme::NoScheme;
 use qd_line::{LineCutter, Next};
@@ -51,7 +52,8 @@ fn finish(mut cutter: LineCutter, mut reader: SchemeReader) -> Result<Scheme, No
 
 /// The scheme of the records that were read.
 fn judged(reader: SchemeReader) -> Result<Scheme, NoScheme>
-    ensures { Answers result (judged reader (scheme_fault reader.defs)) }
+    ensures answer { Answers result (judged reader (scheme_fault reader.defs)) }
+    ensures memory { result ≡ Err Forgone → scheme_fault reader.defs ≡ None }
 {
     match reader.finish() {
         Ok(scheme) => Ok(scheme),
@@ -90,10 +92,11 @@ fn read_all<S: Source>(
         if let Err(end) = read_lines(cutter, reader) {
             return Err(end);
         }
-        if taken == MOST_BYTES {
-            return Err(NoScheme::TooMuch);
-        }
-        match read_piece(source, cutter, &mut piece, (MOST_BYTES - taken) as usize) {
+        let most = match left_to_read(taken) {
+            Ok(most) => most,
+            Err(end) => return Err(end),
+        };
+        match read_piece(source, cutter, &mut piece, most) {
             Ok(0) => return Ok(()),
             Ok(n) => taken += n as u64,
             Err(end) => return Err(end),
@@ -106,6 +109,17 @@ fn new_piece(alloc: Global) -> Result<Vec<u8>, NoMemory>
     ensures { IfOk result (λ piece. 0 < vec_len piece) }
 {
     vec![in alloc; 0; PIECE]
+}
+
+/// How many bytes may still be read.
+fn left_to_read(taken: u64) -> Result<usize, NoScheme>
+    requires { taken ≤ 2 ^ 40 }
+    ensures { result ≡ (if taken == 2 ^ 40 then Err TooMuch else Ok (2 ^ 40 - taken)) }
+{
+    if taken == MOST_BYTES {
+        return Err(NoScheme::TooMuch);
+    }
+    Ok((MOST_BYTES - taken) as usize)
 }
 
 /// Reads at most so many bytes, once: how many it was, and none at the end.
@@ -148,6 +162,7 @@ fn read_lines(cutter: &mut LineCutter, reader: &mut SchemeReader) -> Result<(), 
     requires same { cutter.old.line ≡ reader.old.lines }
     requires few { reader.old.lines + length cutter.old.left < 2 ^ 63 }
     ensures read { Gives (reader.new, cutter.new.left) result (read_on reader.old [] cutter.old.left) }
+    ensures long { IsTooLong cutter.old.left → result ≡ Err (LineTooLong (reader.old.lines + 1)) }
     ensures opened { OnOk result (IsOpen reader.new cutter.new.left) }
     ensures same { OnOk result (cutter.new.line ≡ reader.new.lines) }
     ensures few { OnOk result (reader.new.lines + length cutter.new.left ≤ reader.old.lines + length cutter.old.left) }
@@ -169,7 +184,8 @@ fn read_lines(cutter: &mut LineCutter, reader: &mut SchemeReader) -> Result<(), 
 fn read_line(cutter: &LineCutter, reader: &mut SchemeReader) -> Result<(), NoScheme>
     requires short { length cutter.now.text ≤ 4096 }
     requires few { reader.old.lines < 2 ^ 63 }
-    ensures { Gives reader.new result (with_said reader.old (scheme_line cutter.now.text)) }
+    ensures read { Gives reader.new result (with_said reader.old (scheme_line cutter.now.text)) }
+    ensures memory { result ≡ Err Forgone → is_record_line cutter.now.text ≡ true }
 {
     reader.line(cutter.text()).map_err(no_scheme)
 }

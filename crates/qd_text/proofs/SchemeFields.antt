@@ -4,16 +4,18 @@ use Rattle.std.specs.Prelude.{◌⊎◌, nat_lt, slice_get, option_map, Option, 
 use Rattle.qd_scheme.specs.declared.defs.FieldDef.{FieldDef}
 use Rattle.qd_scheme.specs.declared.defs.RecordDef.{RecordDef}
 use Rattle.qd_grammar.specs.declared.fault.Fault.{Fault}
+use Rattle.qd_grammar.specs.declared.fault.Why.TheVariants.{Form}
+use Rattle.qd_grammar.specs.Lines.{is_skipped}
 use Rattle.qd_grammar.specs.Parts.{Part, parts_of, ◌>>=◌}
 use Rattle.qd_text.specs.Cursor.{left, first_of}
-use Rattle.qd_text.specs.SchemeLines.{field_told, fields_of, is_starred, record_of}
+use Rattle.qd_text.specs.SchemeLines.{field_told, fields_of, is_record_line, is_starred, record_of, scheme_line}
 use Rattle.std.specs.Option.{option_or}
 use Rattle.std.proofs.lemmas.Bool.Decides.{nat_tests}
-use Rattle.qd_scheme.specs.Faults.{first_wrong, record_fault, scheme_fault}
+use Rattle.qd_scheme.specs.Faults.{IsFaultOf, first_wrong, record_fault, scheme_fault}
 use Rattle.qd_scheme.specs.declared.faults.SchemeWhy.{SchemeWhy}
 use Rattle.qd_scheme.specs.declared.faults.SchemeWhy.TheVariants.{TooManyRecords}
 use Rattle.qd_scheme.specs.declared.faults.SchemeFault.{SchemeFault}
-use Rattle.qd_scheme.specs.declared.faults.SchemeFault.TheVariants.{Wrong}
+use Rattle.qd_scheme.specs.declared.faults.SchemeFault.TheVariants.{Wrong, NoMemory}
 use Rattle.qd_text.proofs.Cuts.{no_part_left}
 use Rattle.qd_text.proofs.Descriptions.{name_bytes}
 
@@ -52,6 +54,16 @@ record_fails line end hist f at h p e =
 pub record_read : (line : List ℕ) (end : ℕ) → parts_of line ≡ first_of line end ∷ left line (end + 1) → record_of (parts_of line) ≡ record_of (first_of line end ∷ left line (end + 1))
 record_read line end e = ap record_of e
 
+-- a line that says a record is a description
+said_by : (skipped described : Bool) (read : Result (Option RecordDef) Fault) (f : Fault) (def : RecordDef) → cond skipped (Ok None) (cond described read (Err f)) ≡ Ok (Some def) → described ≡ true
+said_by true described read f def e = cc
+said_by false true read f def e = refl
+said_by false false read f def e = cc
+
+pub record_said : (line : List ℕ) (def : RecordDef) → scheme_line line ≡ Ok (Some def) → is_record_line line ≡ true
+unfolding scheme_line
+record_said line def e = said_by (is_skipped line) (is_record_line line) (record_of (parts_of line)) (record { place = 1; why = Form }) def e
+
 -- places kept for more records than there are
 pub kept_places : (n : ℕ) (places : List ℕ) (line : ℕ) → n ≤ length places → take n (take n places ++ line ∷ []) ≡ take n places
 kept_places zero places line h = refl
@@ -89,6 +101,17 @@ fault_within defs rec why e =
       | inl a ↦ let t = a.0 in let s = a.1 in let n : 64 ≡ rec = cc in let l : 64 < length defs = grind (arith, nat_tests) in omega arith
       | inr b ↦ let m = mapped_wrong wrong rec why b.1 in let l = wrong_within record_fault 0 [] defs m.0 m.1.0 in let k = m.1.1 in omega arith
     ]
+
+-- where memory was wanted, the records have no fault
+forgone : (many : Bool) (wrong : Option (ℕ × SchemeWhy)) → option_or (cond many (Some (Wrong 64 TooManyRecords)) (option_map (λ (w : ℕ × SchemeWhy). Wrong w.0 w.1) wrong)) (Some NoMemory) ≡ Some NoMemory
+    → cond many (Some (Wrong 64 TooManyRecords)) (option_map (λ (w : ℕ × SchemeWhy). Wrong w.0 w.1) wrong) ≡ None
+forgone true wrong e = cc
+forgone false (Some w) e = cc
+forgone false None e = refl
+
+pub right_forgone : (defs : List RecordDef) → IsFaultOf defs NoMemory → scheme_fault defs ≡ None
+unfolding scheme_fault
+right_forgone defs e = forgone (nat_lt 64 (length defs)) (first_wrong record_fault 0 [] defs) e
 
 pub get_taken : (places : List ℕ) (n rec : ℕ) → rec < n → slice_get (take n places) rec ≡ slice_get places rec
 get_taken [] zero rec h = refl

@@ -1,5 +1,5 @@
 -- What the lines of a scheme file say: a record each, with the number of its line.
-use Rattle.std.specs.Prelude.{ℕ, ◌≡◌, ◌+◌, ◌-◌, ◌==◌, ◌&&◌, not, nat_le, nat_eq, cond, if◌then◌else◌, List, [], ◌∷◌, ◌++◌, length, take, drop, codes, slice_get, slice_index, Bool, false, Option, Some, None, option_map, Result, Ok, Err}
+use Rattle.std.specs.Prelude.{ℕ, ◌≡◌, ◌+◌, ◌-◌, ◌==◌, ◌&&◌, not, nat_le, nat_eq, cond, if◌then◌else◌, List, [], ◌∷◌, ◌++◌, length, take, drop, codes, slice_get, slice_index, Bool, true, false, Option, Some, None, option_map, Result, Ok, Err}
 use Rattle.std.specs.Cmp.Lexicographic.{pointwise}
 use Rattle.qd_scheme.specs.declared.defs.FieldKind.{FieldKind}
 use Rattle.qd_scheme.specs.declared.defs.FieldKind.TheVariants.{Int, Dec}
@@ -47,11 +47,15 @@ abbrev pub record_of : List Part → Result (Option RecordDef) Fault
 record_of [] = fault 1 Form
 record_of (first ∷ parts) = fields_of (cond (is_starred parts) (drop 1 parts) parts) >>= λ fields. Ok (Some (record { name = drop 1 first.bytes; hist = is_starred parts; fields = fields }))
 
+-- a line that begins as the description of a record does
+abbrev pub is_record_line : List ℕ → Bool
+is_record_line line = is_description line && not (is_control line)
+
 -- what a line says: nothing where it is skipped, a record, or a fault
 unfoldable pub scheme_line : List ℕ → Result (Option RecordDef) Fault
 scheme_line line =
     if is_skipped line then Ok None else
-    if is_description line && not (is_control line) then record_of (parts_of line) else
+    if is_record_line line then record_of (parts_of line) else
     fault 1 Form
 
 -- the lines read so far: how many, the records in order, and the number of the line of each
@@ -68,7 +72,7 @@ abbrev pub with_line : Option RecordDef → SchemeText → SchemeText
 with_line None text = record text { lines = text.lines + 1 }
 with_line (Some def) text = record { lines = text.lines + 1; defs = text.defs ++ def ∷ []; places = text.places ++ (text.lines + 1) ∷ [] }
 
--- what a function of the code returned, as reading tells it; want of memory says nothing
+-- what a function of the code returned, as reading tells it; want of memory says nothing of what is read
 abbrev pub Stops : {A : Type 0} → Stop → Result A Fault → Type 0
 Stops (stops.Bad f) read = read ≡ Err f
 Stops stops.NoMemory read = Unit {0}
@@ -82,15 +86,22 @@ abbrev pub told : ℕ → Stop → SchemeEnd
 told line (stops.Bad f) = Bad (record { line = line; place = f.place; why = f.why })
 told line stops.NoMemory = NoMemory
 
--- what a reader answered to a line, and what it stands for afterwards
+-- memory is wanted only where this holds
+abbrev pub WantsIf : {X : Type 0} → Bool → Result X Stop → Type 0
+WantsIf test (Ok x) = Unit {0}
+WantsIf test (Err (stops.Bad f)) = Unit {0}
+WantsIf test (Err stops.NoMemory) = test ≡ true
+
+-- what a reader answered to a line, and what it stands for afterwards; only a record wants memory
 abbrev pub IsLineRead : SchemeText → List ℕ → Result (Unit {0}) SchemeEnd → SchemeText → Type 0
 IsLineRead old line (Ok u) new = (read : Option RecordDef) × ((scheme_line line ≡ Ok read) × (new ≡ with_line read old))
 IsLineRead old line (Err (Bad bad)) new = (scheme_line line ≡ Err (record { place = bad.place; why = bad.why })) × (bad.line ≡ old.lines + 1)
 IsLineRead old line (Err (Wrong line' why)) new = ⊥
-IsLineRead old line (Err NoMemory) new = new ≡ old
+IsLineRead old line (Err NoMemory) new = (new ≡ old) × (is_record_line line ≡ true)
 
--- why the records read are no scheme: the first fault of the list, told with the line of its record
+-- why the records read are no scheme: the first fault of the list, told with the line of its record; memory is wanted only
+-- where there is none
 abbrev pub IsRefusal : SchemeText → SchemeEnd → Type 0
 IsRefusal text (Bad bad) = ⊥
 IsRefusal text (Wrong line why) = (rec : ℕ) × ((scheme_fault text.defs ≡ Some (faults.Wrong rec why)) × (slice_get text.places rec ≡ Some line))
-IsRefusal text NoMemory = Unit {0}
+IsRefusal text NoMemory = scheme_fault text.defs ≡ None

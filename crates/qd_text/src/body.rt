@@ -128,6 +128,7 @@ fn key_at(line: &[u8], scheme: &Scheme, hist: bool, near: u32) -> Result<(Key, u
 }
 
 /// The same in place of another key, whose record is the one to look at first.
+#[inline(always)]
 #[tactic(auto, unfolding(qd_grammar::specs::Body::key_at))]
 fn key_into(line: &[u8], scheme: &Scheme, hist: bool, key: &mut Key) -> Result<usize, Fault>
     requires short { length line.now ≤ 4096 }
@@ -161,7 +162,6 @@ fn cells_of(
 }
 
 /// A record.
-#[inline(never)]
 #[tactic(auto, unfolding(qd_grammar::specs::Body::record_line))]
 fn first_record(line: &[u8], scheme: &Scheme, out: &mut Item) -> Result<(), Fault>
     requires { length line.now ≤ 4096 }
@@ -199,7 +199,6 @@ fn record_line(line: &[u8], scheme: &Scheme, out: &mut Item) -> Result<(), Fault
 }
 
 /// An event.
-#[inline(never)]
 #[tactic(auto, unfolding(qd_grammar::specs::Body::event_line))]
 fn first_event(line: &[u8], scheme: &Scheme, out: &mut Item) -> Result<(), Fault>
     requires { length line.now ≤ 4096 }
@@ -237,7 +236,6 @@ fn next_event(line: &[u8], scheme: &Scheme, last: &mut Event) -> Result<(), Faul
     Ok(())
 }
 
-#[inline(never)]
 fn event_line(line: &[u8], scheme: &Scheme, out: &mut Item) -> Result<(), Fault>
     requires { length line.now ≤ 4096 }
     ensures { put_aside result out.new ≡ event_line scheme.now (length line.now + 1) (left line.now 0) }
@@ -248,7 +246,6 @@ fn event_line(line: &[u8], scheme: &Scheme, out: &mut Item) -> Result<(), Fault>
     }
 }
 
-#[inline(never)]
 #[tactic(auto, unfolding(qd_grammar::specs::Body::sub_line))]
 fn sub_line(line: &[u8], scheme: &Scheme, hist: bool, out: &mut Item) -> Result<(), Fault>
     requires { length line.now ≤ 4096 }
@@ -260,7 +257,6 @@ fn sub_line(line: &[u8], scheme: &Scheme, hist: bool, out: &mut Item) -> Result<
     Ok(())
 }
 
-#[inline(never)]
 #[tactic(auto, unfolding(qd_grammar::specs::Body::hist_sub_line))]
 fn hist_sub_line(line: &[u8], scheme: &Scheme, out: &mut Item) -> Result<(), Fault>
     requires { length line.now ≤ 4096 }
@@ -273,7 +269,6 @@ fn hist_sub_line(line: &[u8], scheme: &Scheme, out: &mut Item) -> Result<(), Fau
     Ok(())
 }
 
-#[inline(never)]
 #[tactic(auto, unfolding(qd_grammar::specs::Body::lost_line))]
 fn lost_line(line: &[u8], scheme: &Scheme, out: &mut Item) -> Result<(), Fault>
     requires { length line.now ≤ 4096 }

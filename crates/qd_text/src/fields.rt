@@ -131,6 +131,7 @@ pub fn symbol_at(line: &[u8], at: usize) -> Result<(Sym, usize), Fault>
 }
 
 /// The same in place of another symbol.
+#[inline(always)]
 #[tactic(auto, unfolding(qd_grammar::specs::Fields::symbol_at))]
 pub fn symbol_into(line: &[u8], at: usize, symbol: &mut Sym) -> Result<usize, Fault>
     requires short { length line.now ≤ 4096 }

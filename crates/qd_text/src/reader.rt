@@ -170,7 +170,6 @@ fn item_of(
 }
 
 /// The same, line by line of the grammar.
-#[inline(never)]
 fn any_item(
     mode: Mode,
     state: &State,

@@ -1,8 +1,8 @@
 //! What a line of a scheme file says.
 
-ghost use Rattle.std.specs.Prelude.{◌≡◌, ◌≤◌, ◌<◌, ◌+◌, ◌∷◌, length, drop, cond, Some};
+ghost use Rattle.std.specs.Prelude.{◌≡◌, ◌≤◌, ◌<◌, ◌+◌, ◌∷◌, length, drop, cond, Some, is_some};
 ghost use Rattle.qd_text.specs.Cursor.{left, first_of};
-ghost use Rattle.qd_text.specs.SchemeLines.{is_digit, name_and_kind, field_told, fields_of, is_starred, record_of, scheme_line, Gives};
+ghost use Rattle.qd_text.specs.SchemeLines.{is_digit, name_and_kind, field_told, fields_of, is_starred, is_record_line, record_of, scheme_line, Gives, WantsIf};
 
 use crate::cursor::{fault_at, first_end, tab_from};
 use crate::reader::{is_control, is_description, is_skipped};
@@ -40,7 +40,8 @@ fn is_digit(byte: u8) -> bool
 /// The field that the part at an index describes.
 fn field_of(alloc: Global, text: &[u8], at: usize) -> Result<FieldDef, Stop>
     requires { at ≤ 4096 }
-    ensures { Gives (λ f. f) result (field_told (at + 1) text.now) }
+    ensures read { Gives (λ f. f) result (field_told (at + 1) text.now) }
+    ensures memory { WantsIf (is_some (name_and_kind text.now)) result }
 {
     match name_and_kind(text) {
         None => Err(Stop::Bad(fault_at(at, Why::Form))),
@@ -116,7 +117,8 @@ fn record_of(alloc: Global, line: &[u8], end: usize) -> Result<RecordDef, Stop>
 #[tactic(auto, using(crate::proofs::SchemeFields::record_read), unfolding(crate::specs::SchemeLines::scheme_line))]
 pub fn scheme_line(alloc: Global, line: &[u8]) -> Result<Option<RecordDef>, Stop>
     requires { length line.now ≤ 4096 }
-    ensures { Gives (λ read. read) result (scheme_line line.now) }
+    ensures read { Gives (λ read. read) result (scheme_line line.now) }
+    ensures memory { WantsIf (is_record_line line.now) result }
 {
     if is_skipped(line) {
         return Ok(None);

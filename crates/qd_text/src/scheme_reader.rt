@@ -55,6 +55,7 @@ impl SchemeReader {
     }
 
     /// Reads a line. It is not to be called after a bad line. After `NoMemory` the reader is as it was.
+    #[tactic(auto, using(crate::proofs::SchemeFields::record_said))]
     pub fn line(&mut self, text: &[u8]) -> Result<(), SchemeEnd>
         requires short { length text.now ≤ 4096 }
         requires lines { self.old.lines < 2 ^ 63 }

@@ -1,10 +1,10 @@
 use Rattle.std.proofs.Common.{◌≡◌, ◌<◌, List, length, take, ap, subst, ◌∙◌, arith, rules}
-use Rattle.std.specs.Prelude.{Some, slice_get}
-use Rattle.qd_scheme.specs.Faults.{scheme_fault}
+use Rattle.std.specs.Prelude.{Some, None, slice_get}
+use Rattle.qd_scheme.specs.Faults.{scheme_fault, IsFaultOf}
 use Rattle.qd_scheme.specs.declared.defs.RecordDef.{RecordDef}
 use Rattle.qd_scheme.specs.declared.faults.SchemeFault.TheVariants.{Wrong}
 use Rattle.qd_text.specs.SchemeLines.{SchemeText}
-use Rattle.qd_text.proofs.SchemeFields.{fault_within, get_taken}
+use Rattle.qd_text.proofs.SchemeFields.{fault_within, right_forgone, get_taken}
 use Rattle.qd_text.proofs.scheme_reader.SchemeReader.finish.Goals as goal
 
 pub line_of-line-requires : goal.line_of-line-requires
@@ -24,3 +24,8 @@ returns-clause-refused c =
         subst (λ places. slice_get places c.in-Err-Wrong.rec ≡ Some c.line_of-line.result) (ap (λ (t : SchemeText). t.places) c.self.view_is) taken,
       ),
     )
+
+pub returns-in-Err-NoMemory-clause-refused : goal.returns-in-Err-NoMemory-clause-refused
+returns-in-Err-NoMemory-clause-refused c =
+    let fault = subst (IsFaultOf c.self.inside.defs.items) c.in-Err-NoMemory.field-0-is c.in-Err-NoMemory.ensures.refused in
+    subst (λ (defs : List RecordDef). scheme_fault defs ≡ None) (ap (λ (t : SchemeText). t.defs) c.self.view_is) (right_forgone c.self.inside.defs.items fault)
