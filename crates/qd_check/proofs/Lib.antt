@@ -1,4 +1,5 @@
 pub mod CheckLaws
 pub mod FmtLaws
+pub mod Gathering
 mod Rows
 pub mod RunLaws

@@ -32,7 +32,7 @@ not_begun printed defs o e = inl (
   record {
     past = nothing;
     rest = [];
-    ended = record { bytes = record { cut = record { whole = refl; each = tt }; short = tt; within = omega arith }; took = Took-none o.left; cause = (refl, refl) };
+    ended = record { bytes = record { cut = record { whole = refl; each = tt }; short = tt; within = omega arith }; took = Took-none o.left; cause = (refl, inl refl, refl) };
     gained = subst (λ (l : List ℕ). Gained o.written o.written l) (sym e) (Gained-none o.written);
     same = refl;
   },

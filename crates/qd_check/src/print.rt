@@ -1,6 +1,6 @@
 //! `fmt`: the canonical line of each item.
 
-ghost use Rattle.std.specs.Prelude.{◌≡◌, ◌++◌, ◌∷◌, [], true};
+ghost use Rattle.std.specs.Prelude.{◌≡◌, ◌≤◌, ◌++◌, ◌∷◌, [], length, true};
 ghost use Rattle.qd_check.specs.Counting.{PrintsEnd, PrintsLines};
 ghost use Rattle.qd_check.specs.Printing.{end_line, fmt_text, line_of};
 ghost use Rattle.qd_check.specs.Runs.{IsDecided, IsFlushed, Runs};
@@ -56,56 +56,93 @@ fn print_lines<S: Source, K: Sink>(
         result out.new (record { left = S.left source.new; reads = S.faults source.new; written = K.written sink.new; writes = K.faults sink.new }) }
     ensures kept { S.kept source.new ≡ S.kept source.old }
 {
-    let mut line = Line::new();
+    let mut lines = Line::new();
     'items: loop {
         match items.advance(scheme, source) {
             None => {
-                if !print_item(scheme, items.item(), &mut line, out, sink) {
+                if !print_item(scheme, items.item(), &mut lines, out, sink) {
                     return None;
                 }
             }
-            Some(end) => return print_end(scheme, end, &mut line, out, sink),
+            Some(end) => return print_end(scheme, end, &mut lines, out, sink),
         }
     }
 }
 
-/// Prints END's line at the end of a whole text. None where a write failed.
+/// Prints what stands at the end of a text, behind the lines that are gathered. None where a write failed.
 fn print_end<K: Sink>(
     scheme: &Scheme,
     end: TextEnd,
-    line: &mut Line,
+    lines: &mut Line,
     out: &mut OutBuffer,
     sink: &mut K,
 ) -> Option<TextEnd>
-    ensures { PrintsEnd (end_line scheme.now end) end result out.old out.new (K.written sink.old) (K.written sink.new) (K.faults sink.old) (K.faults sink.new) }
+    ensures { PrintsEnd (end_line scheme.now end) end result (out.old ++ lines.old) out.new (K.written sink.old) (K.written sink.new) (K.faults sink.old) (K.faults sink.new) }
 {
-    if let TextEnd::End = end {
-        if !print_item(scheme, &Item::End, line, out, sink) {
-            return None;
-        }
+    if !print_last(scheme, end, lines, out, sink) {
+        return None;
+    }
+    if !out.print(sink, lines.bytes()) {
+        return None;
     }
     Some(end)
 }
 
-/// Prints the line of an item.
-fn print_item<K: Sink>(
+/// Prints END's line at the end of a whole text.
+#[tactic(auto, using(crate::proofs::FmtLaws::nothing_printed))]
+fn print_last<K: Sink>(
     scheme: &Scheme,
-    item: &Item,
-    line: &mut Line,
+    end: TextEnd,
+    lines: &mut Line,
     out: &mut OutBuffer,
     sink: &mut K,
 ) -> bool
-    ensures { Prints result (line_of scheme.now item.now) out.old out.new (K.written sink.old) (K.written sink.new) (K.faults sink.old) (K.faults sink.new) }
+    ensures { Prints result (end_line scheme.now end) (out.old ++ lines.old) (out.new ++ lines.new) (K.written sink.old) (K.written sink.new) (K.faults sink.old) (K.faults sink.new) }
 {
-    set_line(scheme, item, line);
-    out.print(sink, line.bytes())
+    if let TextEnd::End = end {
+        return print_item(scheme, &Item::End, lines, out, sink);
+    }
+    true
 }
 
-/// Writes the line of an item in place of the one before.
-fn set_line(scheme: &Scheme, item: &Item, line: &mut Line)
-    ensures { line.new ≡ line_of scheme.now item.now }
+/// Prints the line of an item, behind the lines that are gathered.
+#[tactic(auto, using(crate::proofs::Gathering::one_line, crate::proofs::Gathering::no_line))]
+fn print_item<K: Sink>(
+    scheme: &Scheme,
+    item: &Item,
+    lines: &mut Line,
+    out: &mut OutBuffer,
+    sink: &mut K,
+) -> bool
+    ensures { Prints result (line_of scheme.now item.now) (out.old ++ lines.old) (out.new ++ lines.new) (K.written sink.old) (K.written sink.new) (K.faults sink.old) (K.faults sink.new) }
 {
-    line.clear();
-    write_item(scheme, item, line);
-    line.push(b'\n');
+    if !make_room(lines, out, sink) {
+        return false;
+    }
+    add_line(scheme, item, lines);
+    true
+}
+
+/// Gathered lines are printed where a further one might not fit behind them: one by one they would be copied twice.
+#[inline]
+#[tactic(auto, using(crate::proofs::Gathering::let_go, crate::proofs::FmtLaws::nothing_printed))]
+fn make_room<K: Sink>(lines: &mut Line, out: &mut OutBuffer, sink: &mut K) -> bool
+    ensures room { length lines.new ≤ 3000 }
+    ensures prints { Prints result [] (out.old ++ lines.old) (out.new ++ lines.new) (K.written sink.old) (K.written sink.new) (K.faults sink.old) (K.faults sink.new) }
+{
+    if lines.len() <= 3000 {
+        return true;
+    }
+    let printed = out.print(sink, lines.bytes());
+    lines.clear();
+    printed
+}
+
+/// Writes the line of an item behind others.
+fn add_line(scheme: &Scheme, item: &Item, lines: &mut Line)
+    requires { length lines.old ≤ 3000 }
+    ensures { lines.new ≡ lines.old ++ line_of scheme.now item.now }
+{
+    write_item(scheme, item, lines);
+    lines.push(b'\n');
 }

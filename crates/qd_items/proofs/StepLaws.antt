@@ -163,6 +163,7 @@ end_comes defs start p k line rest lines was before after w t e same counted = (
       ∙ ap (λ s. with_said (length (line ∷ w.past.lines)) s (items_of k.mode defs w.past.lines)) e
       ∙ ap (λ (is : List Numbered). record { line = length (line ∷ w.past.lines); item = items.End } ∷ is) w.same,
   let n = w.read.stands.count in omega (arith, n, counted),
+  λ e. cc,
 )
 
 bad_comes : (defs : List RecordDef) (start : Option (List ℕ)) (p : Past) (k : Kept) (line rest : List ℕ) (lines : ℕ) (was : Option (List ℕ)) (bad : BadLine) (before after : ℕ) (w : WentOn defs start p k was)
@@ -191,6 +192,7 @@ bad_comes defs start p k line rest lines was bad before after w t e number same 
           ∙ ap (λ s. with_said (length (line ∷ w.past.lines)) s (items_of k.mode defs w.past.lines)) e
           ∙ w.same,
       omega (arith, n, counted),
+      λ e. cc,
     )
 
 -- nothing more was taken
@@ -215,6 +217,7 @@ ends_at defs start p k new was now before after (LineTooLong line) w (long, numb
       (w.more, w.lines),
       w.same,
       counted ∙ s.count,
+      λ e. cc,
     )
 ends_at defs start p k new was now before after (CutOff line) w (hungry, number, counted, few, took, spent, same) =
     let s = w.read.stands in
@@ -226,6 +229,7 @@ ends_at defs start p k new was now before after (CutOff line) w (hungry, number,
       (w.more, w.lines),
       w.same,
       counted ∙ s.count,
+      λ e. cc,
     )
 ends_at defs start p k new was now before after TooMuch w (hungry, full, counted, same) =
     let s = w.read.stands in
@@ -236,6 +240,7 @@ ends_at defs start p k new was now before after TooMuch w (hungry, full, counted
       (w.more, w.lines),
       w.same,
       counted ∙ s.count,
+      λ e. cc,
     )
 ends_at defs start p k new was now before after ReadFault w (hungry, few, counted, took, rose) =
     let s = w.read.stands in
@@ -246,16 +251,20 @@ ends_at defs start p k new was now before after ReadFault w (hungry, few, counte
       (w.more, w.lines),
       w.same,
       counted ∙ s.count,
+      λ e. cc,
     )
-ends_at defs start p k new was now before after NoMemory w ((bytes, took, within), counted, same) =
+ends_at defs start p k new was now before after NoMemory w (hungry, (bytes, took, some, within), counted, same) =
     let s = w.read.stands in
-    let m = s.number in (
+    let m = s.number in
+    let n = length-append k.left bytes in
+    let more : 0 < length (k.left ++ bytes) = omega (arith, n, some) in (
       with_bytes bytes w.past,
       k.left ++ bytes,
-      record { bytes = taken_bytes w.past k.left bytes s.bytes (omega (arith, m, within)); took = Took-more start was now w.past.taken bytes w.read.took took; cause = (s.is_open, same) },
+      record { bytes = taken_bytes w.past k.left bytes s.bytes (omega (arith, m, within)); took = Took-more start was now w.past.taken bytes w.read.took took; cause = (s.is_open, inr more, same) },
       (w.more, w.lines),
       w.same,
       counted ∙ s.count,
+      λ e. more,
     )
 
 -- a step that gives an item or an end

@@ -52,7 +52,7 @@ Steps defs k (Some (nexts.Ended TooMuch)) new was now before after = IsHungry k.
 Steps defs k (Some (nexts.Ended ReadFault)) new was now before after =
     IsHungry k.left × (k.taken < 2 ^ 40) × (new.lines ≡ k.lines) × Took was now [] × Rose before after
 Steps defs k (Some (nexts.Ended NoMemory)) new was now before after =
-    ((bytes : List ℕ) × Took was now bytes × (k.taken + length bytes ≤ 2 ^ 40)) × (new.lines ≡ k.lines) × (after ≡ before)
+    IsHungry k.left × ((bytes : List ℕ) × Took was now bytes × (1 ≤ length bytes) × (k.taken + length bytes ≤ 2 ^ 40)) × (new.lines ≡ k.lines) × (after ≡ before)
 
 -- a past in which no item is there that was not there before
 pub record WentOn (defs : List RecordDef) (start : Option (List ℕ)) (p : Past) (k : Kept) (left : Option (List ℕ)) : Type 0 where

@@ -4,7 +4,7 @@ use Rattle.qd_check.proofs.FmtLaws.{print_none, print_went, print_broke, print_e
 use Rattle.qd_check.proofs.print.print_lines.Goals as goal
 
 pub items-init : goal.items-init
-items-init g c = (ap (λ (k : Kept). k.mode) c.requires.items, refl, print_none _ _ _ _ c.requires.items c.requires.out)
+items-init g c = (ap (λ (k : Kept). k.mode) c.requires.items, refl, print_none _ _ _ _ c.requires.items (rw (c.requires.out, c.new-lines.ensures) refl))
 
 pub returns-then-not-print_item-clause-prints : goal.returns-then-not-print_item-clause-prints
 returns-then-not-print_item-clause-prints g c =

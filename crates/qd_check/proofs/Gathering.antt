@@ -1,0 +1,43 @@
+-- Lines that are gathered behind what is held back, before they are held back themselves.
+use Rattle.std.proofs.Common.{ℕ, ◌≡◌, Bool, true, false, Option, Some, None, List, [], ◌++◌, refl, sym, ◌∙◌, ap, subst, append_assoc}
+use Rattle.std.proofs.lemmas.List.{append-nil}
+use Rattle.qd_items.specs.declared.ends.TextEnd.{TextEnd}
+use Rattle.qd_outside.specs.Buffering.{Prints}
+use Rattle.qd_outside.specs.Writing.{IsCutShort}
+use Rattle.qd_outside.proofs.Streams.{Gained-more, cut_more, cut_after}
+use Rattle.qd_check.specs.Counting.{PrintsEnd}
+
+-- the gathered lines are held back
+pub let_go : (b : Bool) (lines old new rest : List ℕ) (was now : Option (List ℕ)) (before after : ℕ) → rest ≡ [] → Prints b lines old new was now before after → Prints b [] (old ++ lines) (new ++ rest) was now before after
+let_go true lines old new rest was now before after h (piece, e, w) = (piece, append-nil (old ++ lines) ∙ e ∙ ap (λ (l : List ℕ). piece ++ l) (sym (append-nil new)) ∙ ap (λ (l : List ℕ). piece ++ (new ++ l)) (sym h), w)
+let_go false lines old new rest was now before after h c = cut_more (old ++ lines) [] was now before after c
+
+-- a line is put behind them
+pub one_line : (line old new lines more : List ℕ) (was now : Option (List ℕ)) (before after : ℕ) → more ≡ lines ++ line → Prints true [] old (new ++ lines) was now before after → Prints true line old (new ++ more) was now before after
+one_line line old new lines more was now before after h (piece, e, w) = (
+  piece,
+  ap (λ (l : List ℕ). l ++ line) (sym (append-nil old) ∙ e)
+      ∙ append_assoc piece (new ++ lines) line
+      ∙ ap (λ (l : List ℕ). piece ++ l) (append_assoc new lines line ∙ ap (λ (l : List ℕ). new ++ l) (sym h)),
+  w,
+)
+
+-- a line is cut short where those before it are
+pub no_line : (line old new : List ℕ) (was now : Option (List ℕ)) (before after : ℕ) → Prints false [] old new was now before after → Prints false line old new was now before after
+no_line line old new was now before after c = subst (λ (l : List ℕ). IsCutShort (l ++ line) was now before after) (append-nil old) (cut_more (old ++ []) line was now before after c)
+
+-- at the end all of them are held back
+pub at_last : (end last : TextEnd) (text old mid lines new : List ℕ) (was now later : Option (List ℕ)) (before between after : ℕ) → last ≡ end → Prints true text old (mid ++ lines) was now before between → Prints true lines mid new now later between after
+    → PrintsEnd text end (Some last) old new was later before after
+at_last end last text old mid lines new was now later before between after h (first, e, v) (second, f, w) = (
+  h,
+  (
+    first ++ second,
+    e ∙ ap (λ (l : List ℕ). first ++ l) f ∙ sym (append_assoc first second new),
+    record { gained = Gained-more was now later first second v.gained w.gained; same = w.same ∙ v.same },
+  ),
+)
+
+pub cut_at_last : (end : TextEnd) (text old mid lines new : List ℕ) (was now later : Option (List ℕ)) (before between after : ℕ) → Prints true text old (mid ++ lines) was now before between → Prints false lines mid new now later between after
+    → PrintsEnd text end None old new was later before after
+cut_at_last end text old mid lines new was now later before between after (first, e, v) c = subst (λ (l : List ℕ). IsCutShort l was later before after) (sym e) (cut_after first (mid ++ lines) was now later before between after v c)
