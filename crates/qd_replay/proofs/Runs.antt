@@ -262,7 +262,7 @@ not_begun set o = record {
   logs = no_logs;
   out = [];
   begun = record { bytes = (opening_read File set.defs o.left).stands.bytes; took = Took-none o.left; acts = refl; ran = (refl, refl); legal = record { ticker = tt; stream = tt; history = tt } };
-  cause = inr (record { text_end = texts.NoMemory; end_is = refl; early = λ q. cc; are_open = tt; all_done = refl; cause = (refl, refl) });
+  cause = inr (record { text_end = texts.NoMemory; end_is = refl; early = λ q. cc; are_open = tt; all_done = refl; cause = (refl, inl refl, refl) });
   last = inl refl;
   wrote = inl (record { gained = Gained-none o.written; same = refl });
 }
