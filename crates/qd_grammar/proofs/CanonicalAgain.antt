@@ -3,6 +3,7 @@ use Rattle.std.proofs.Common.{◌≡◌, ℕ, suc, ◌+◌, Bool, true, false, c
 use Rattle.std.specs.Prelude.{◌==◌, ◌||◌, ◌&&◌, ◌⊎◌, nat_lt, codes, slice_index, Option, Some, None, Result, Ok, Err}
 use Rattle.std.specs.Cmp.Lexicographic.{pointwise}
 use Rattle.std.proofs.lemmas.Bool.Decides.{nat_tests}
+use Rattle.std.proofs.Math.Bool.{and-false}
 use Rattle.qd_scheme.specs.Schemes.{IsScheme}
 use Rattle.qd_scheme.specs.declared.defs.RecordDef.{RecordDef}
 use Rattle.qd_grammar.specs.declared.fault.Fault.{Fault}
@@ -35,18 +36,14 @@ begins_control bytes = let h : nat_lt 1 (suc (suc (length bytes))) ≡ true = gr
 begins_description : (bytes : List ℕ) → is_description (61 ∷ bytes) ≡ true
 begins_description bytes = let h : nat_lt 0 (suc (length bytes)) ≡ true = grind (arith, nat_tests) in rw h refl
 
-and_false : (b : Bool) → (b && false) ≡ false
-and_false true = refl
-and_false false = refl
-
 no_control : (first second : ℕ) (bytes : List ℕ) → (second == 61) ≡ false → is_control (first ∷ second ∷ bytes) ≡ false
-no_control first second bytes e = rw e (and_false (nat_lt 1 (suc (suc (length bytes))) && (first == 61)))
+no_control first second bytes e = rw e (and-false (nat_lt 1 (suc (suc (length bytes))) && (first == 61)))
 
 no_description : (first : ℕ) (bytes : List ℕ) → (first == 61) ≡ false → is_description (first ∷ bytes) ≡ false
-no_description first bytes e = rw e (and_false (nat_lt 0 (suc (length bytes))))
+no_description first bytes e = rw e (and-false (nat_lt 0 (suc (length bytes))))
 
 no_control_first : (first : ℕ) (bytes : List ℕ) → (first == 61) ≡ false → is_control (first ∷ bytes) ≡ false
-no_control_first first bytes e = let a = and_false (nat_lt 1 (suc (length bytes))) in rw e (rw a refl)
+no_control_first first bytes e = let a = and-false (nat_lt 1 (suc (length bytes))) in rw e (rw a refl)
 
 no_skipped : (first : ℕ) (bytes : List ℕ) → (first == 35) ≡ false → is_skipped (first ∷ bytes) ≡ false
 no_skipped first bytes e = let z : (suc (length bytes) == 0) ≡ false = grind (arith, nat_tests) in rw z e

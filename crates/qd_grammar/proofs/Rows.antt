@@ -12,15 +12,18 @@ use Rattle.qd_scheme.specs.Symbols.{symbol_of}
 use Rattle.qd_scheme.specs.declared.defs.FieldKind.{FieldKind}
 use Rattle.qd_scheme.specs.declared.defs.FieldKind.TheVariants.{Int, Dec}
 use Rattle.qd_grammar.specs.declared.item.Message.{Message}
-use Rattle.qd_grammar.specs.declared.item.Message.TheVariants.{TickerData, HistoryData, HistoryAdd}
+use Rattle.qd_grammar.specs.declared.item.Message.TheVariants.{TickerData, StreamData, HistoryData, StreamLost, TickerAdd, StreamAdd, HistoryAdd, TickerRemove, StreamRemove, HistoryRemove}
+use Rattle.qd_grammar.specs.declared.item.Mode.{Mode}
 use Rattle.qd_grammar.specs.declared.item.Mode.TheVariants.{Down, Up, File}
 use Rattle.qd_grammar.specs.declared.item.Item.{Item}
-use Rattle.qd_grammar.specs.declared.item.Item.TheVariants.{Protocol, Head, Describe, Rec, Ev, HistSub, Heartbeat, Take}
-use Rattle.qd_grammar.specs.declared.item.Collector.TheVariants.{Ticker}
+use Rattle.qd_grammar.specs.declared.item.Item.TheVariants.{Protocol, Head, Describe, Rec, Ev, Sub, HistSub, Lost, Heartbeat, End, Time, Link, Take, Node, At, Pump, Move}
+use Rattle.qd_grammar.specs.declared.item.Collector.TheVariants.{Ticker, Stream, History}
+use Rattle.qd_grammar.specs.declared.item.Way.TheVariants as ways
+use Rattle.qd_grammar.specs.declared.word.Word.TheVariants as words
 use Rattle.qd_grammar.specs.declared.fault.Fault.{Fault}
 use Rattle.qd_grammar.specs.declared.state.State.{State}
 use Rattle.qd_grammar.specs.declared.fault.Why.TheVariants.{Form, UnknownRecord, SchemeMismatch, Number, BadSymbol, BadFlags, Order}
-use Rattle.qd_grammar.specs.Lines.{first_state, item_of}
+use Rattle.qd_grammar.specs.Lines.{first_state, item_of, answer_of}
 use Rattle.qd_grammar.specs.Words.{word_of}
 use Rattle.qd_grammar.specs.Fields.{cell_at, count_at, symbol_at, word_at, record_at, hist_at, flags_at, loss_at}
 use Rattle.qd_grammar.specs.Body.{key_at, record_line, event_line, sub_line, hist_sub_line, lost_line}
@@ -126,3 +129,82 @@ quote_again = refl
 canonical_hist : canonical builtin (Ev (record { key = record { rec = 2; sym = codes "IBM{=d}" }; index = 20240103; flags = 4; cells = pos 1885000 ∷ pos 1902500 ∷ pos 1879000 ∷ negsuc 1899699 ∷ pos 3500 ∷ [] })) ≡ joined (codes "Candle" ∷ codes "IBM{=d}" ∷ codes "20240103" ∷ codes "4" ∷ codes "188.5" ∷ codes "190.25" ∷ codes "187.9" ∷ codes "-189.97" ∷ codes "3500" ∷ [])
 unfolding canonical digits dec_text magnitude_text
 canonical_hist = refl
+
+abbrev at_time : ℕ → State
+at_time ms = record { started = true; message = None; time = ms }
+
+abbrev said : Mode → State → List (List ℕ) → Result Item Fault
+said mode s parts = item_of mode s builtin (joined parts)
+
+-- each control word with what stands behind it
+control_lines :
+    (said File (at_time 5) (codes "==LINK" ∷ codes "3" ∷ []) ≡ Ok (Link 3))
+    × (said File (at_time 5) (codes "==PUMP" ∷ codes "4" ∷ []) ≡ Ok (Pump 4))
+    × (said File (at_time 5) (codes "==NODE" ∷ codes "1" ∷ codes "2" ∷ []) ≡ Ok (Node 1 2))
+    × (said File (at_time 5) (codes "==AT" ∷ codes "7" ∷ codes "2" ∷ []) ≡ Ok (At 7 2))
+    × (said File (at_time 5) (codes "==MOVE" ∷ codes "7" ∷ codes "UP" ∷ codes "9" ∷ []) ≡ Ok (Move 7 ways.Up 9))
+    × (said File (at_time 5) (codes "==MOVE" ∷ codes "7" ∷ codes "DOWN" ∷ codes "9" ∷ []) ≡ Ok (Move 7 ways.Down 9))
+    × (said File (at_time 5) (codes "==TIME" ∷ codes "5" ∷ []) ≡ Ok (Time 5))
+    × (said File (at_time 5) (codes "==TIME" ∷ codes "4" ∷ []) ≡ Err (record { place = 1; why = Order }))
+    × (said File (at_time 5) (codes "==TAKE" ∷ codes "STREAM" ∷ codes "2" ∷ []) ≡ Ok (Take Stream 2))
+    × (said File (at_time 5) (codes "==TAKE" ∷ codes "HISTORY" ∷ codes "2" ∷ []) ≡ Ok (Take History 2))
+    × (said File (at_time 5) (codes "==HEARTBEAT" ∷ []) ≡ Ok Heartbeat)
+    × (said File (at_time 5) (codes "==END" ∷ []) ≡ Ok End)
+    × (said File (at_time 5) (codes "==WORD" ∷ []) ≡ Err (record { place = 3; why = Form }))
+unfolding word_of item_of dec_of point_at rest_at digits_end zeros_end int_of whole_at count_of symbol_of cell_at count_at symbol_at word_at record_at hist_at key_at flags_at loss_at record_line event_line sub_line hist_sub_line lost_line behind_word describe_line
+control_lines = (refl, refl, refl, refl, refl, refl, refl, refl, refl, refl, refl, refl, refl)
+
+-- where a line may stand
+places :
+    (said Down (at_time 5) (codes "==TICKER_ADD_SUBSCRIPTION" ∷ []) ≡ Ok (Head TickerAdd))
+    × (said Up (at_time 5) (codes "==TICKER_ADD_SUBSCRIPTION" ∷ []) ≡ Err (record { place = 1; why = Order }))
+    × (said Up (at_time 5) (codes "==HISTORY_REMOVE_SUBSCRIPTION" ∷ []) ≡ Err (record { place = 1; why = Order }))
+    × (said Up (at_time 5) (codes "==TICKER_DATA" ∷ []) ≡ Ok (Head TickerData))
+    × (said Up (at_time 5) (codes "==LINK" ∷ codes "3" ∷ []) ≡ Err (record { place = 3; why = Form }))
+    × (said Down (at_time 5) (codes "==TIME" ∷ codes "9" ∷ []) ≡ Err (record { place = 3; why = Form }))
+    × (said File (at_time 5) (codes "==PROTOCOL" ∷ codes "1" ∷ []) ≡ Err (record { place = 1; why = Order }))
+    × (said File (at_time 5) (codes "Quote" ∷ codes "IBM" ∷ []) ≡ Err (record { place = 1; why = Order }))
+    × (said File first_state (codes "==END" ∷ []) ≡ Err (record { place = 1; why = Order }))
+    × (said File first_state (codes "==PROTOCOL" ∷ codes "2" ∷ []) ≡ Err (record { place = 12; why = Form }))
+unfolding word_of item_of dec_of point_at rest_at digits_end zeros_end int_of whole_at count_of symbol_of cell_at count_at symbol_at word_at record_at hist_at key_at flags_at loss_at record_line event_line sub_line hist_sub_line lost_line behind_word describe_line
+places = (refl, refl, refl, refl, refl, refl, refl, refl, refl, refl)
+
+-- body lines under their messages
+bodies :
+    (said File (under StreamLost) (codes "Trade" ∷ codes "A" ∷ codes "1" ∷ []) ≡ Ok (Lost (record { rec = 1; sym = codes "A" }) 1))
+    × (said File (under StreamLost) (codes "Trade" ∷ codes "A" ∷ codes "0" ∷ []) ≡ Err (record { place = 9; why = Form }))
+    × (said File (under TickerAdd) (codes "Quote" ∷ codes "IBM" ∷ []) ≡ Ok (Sub (record { rec = 0; sym = codes "IBM" })))
+    × (said File (under StreamRemove) (codes "Trade" ∷ codes "A" ∷ []) ≡ Ok (Sub (record { rec = 1; sym = codes "A" })))
+    × (said File (under HistoryRemove) (codes "Candle" ∷ codes "A" ∷ []) ≡ Ok (Sub (record { rec = 2; sym = codes "A" })))
+    × (said File (under HistoryRemove) (codes "Quote" ∷ codes "A" ∷ []) ≡ Err (record { place = 1; why = Form }))
+    × (said File (under HistoryAdd) (codes "Quote" ∷ codes "A" ∷ codes "1" ∷ []) ≡ Err (record { place = 1; why = Form }))
+    × (said File (under StreamData) (codes "Bond" ∷ codes "A" ∷ []) ≡ Err (record { place = 1; why = UnknownRecord }))
+    × (said File (under TickerRemove) (codes "Quote" ∷ []) ≡ Err (record { place = 6; why = Form }))
+    × (said File (under StreamAdd) (codes "Quote" ∷ codes "IBM" ∷ codes "x" ∷ []) ≡ Err (record { place = 11; why = Form }))
+    × (said File (under TickerAdd) (codes "Quote" ∷ codes "I M" ∷ []) ≡ Err (record { place = 8; why = BadSymbol }))
+    × (said File (under TickerData) (codes "=Trade" ∷ codes "Price:d3" ∷ codes "Size:i" ∷ codes "Volume:i" ∷ []) ≡ Err (record { place = 8; why = SchemeMismatch }))
+unfolding word_of item_of dec_of point_at rest_at digits_end zeros_end int_of whole_at count_of symbol_of cell_at count_at symbol_at word_at record_at hist_at key_at flags_at loss_at record_line event_line sub_line hist_sub_line lost_line behind_word describe_line digits
+bodies = (refl, refl, refl, refl, refl, refl, refl, refl, refl, refl, refl, refl)
+
+-- the heads
+head_words :
+    (word_of (codes "==TICKER_DATA") ≡ Some (words.Head TickerData))
+    × (word_of (codes "==STREAM_DATA") ≡ Some (words.Head StreamData))
+    × (word_of (codes "==HISTORY_DATA") ≡ Some (words.Head HistoryData))
+    × (word_of (codes "==STREAM_LOST") ≡ Some (words.Head StreamLost))
+    × (word_of (codes "==TICKER_ADD_SUBSCRIPTION") ≡ Some (words.Head TickerAdd))
+    × (word_of (codes "==STREAM_ADD_SUBSCRIPTION") ≡ Some (words.Head StreamAdd))
+    × (word_of (codes "==HISTORY_ADD_SUBSCRIPTION") ≡ Some (words.Head HistoryAdd))
+    × (word_of (codes "==TICKER_REMOVE_SUBSCRIPTION") ≡ Some (words.Head TickerRemove))
+    × (word_of (codes "==STREAM_REMOVE_SUBSCRIPTION") ≡ Some (words.Head StreamRemove))
+    × (word_of (codes "==HISTORY_REMOVE_SUBSCRIPTION") ≡ Some (words.Head HistoryRemove))
+unfolding word_of
+head_words = (refl, refl, refl, refl, refl, refl, refl, refl, refl, refl)
+
+-- comments and empty lines are skipped, and descriptions are not
+skipped_lines :
+    (answer_of File first_state builtin (codes "#x") ≡ Ok None)
+    × (answer_of File first_state builtin [] ≡ Ok None)
+    × (answer_of File (at_time 5) builtin (joined (codes "=Trade" ∷ codes "Price:d4" ∷ codes "Size:i" ∷ codes "Volume:i" ∷ [])) ≡ Ok (Some (Describe 1)))
+unfolding word_of item_of dec_of point_at rest_at digits_end zeros_end int_of whole_at count_of symbol_of cell_at count_at symbol_at word_at record_at hist_at key_at flags_at loss_at record_line event_line sub_line hist_sub_line lost_line behind_word describe_line digits
+skipped_lines = (refl, refl, refl)

@@ -1,7 +1,7 @@
 -- What single acts do to what is known of an agent and a key.
 use Rattle.std.proofs.Common.{◌≡◌, ℕ, Bool, true, false, ◌&&◌, List, [], ◌∷◌, reverse, refl, sym, ◌∙◌, ap, Option, None}
 use Rattle.std.specs.Prelude.{if◌then◌else◌, is_some, nat_eq}
-use Rattle.std.proofs.lemmas.Bool.{and_parts, and_from, eqb-true, eq-eqb}
+use Rattle.std.proofs.lemmas.Bool.{and_parts, and_from, eqb-true, eq-eqb, and_left}
 use Rattle.std.proofs.lemmas.List.{reverse-append}
 use Rattle.qd_scheme.specs.declared.key.Key.{Key}
 use Rattle.qd_scheme.specs.declared.key.Event.{Event}
@@ -73,12 +73,8 @@ begins_gives a k (Full b j) h = h
 pub begins_gave : (a : ℕ) (k : Key) (act : HistAct) → begins a k act ≡ true → (i : HistItem) × (act ≡ Gave a k i)
 begins_gave a k act h = gives_gave a k act (begins_gives a k act h)
 
-and_false : (b c : Bool) → b ≡ false → (b && c) ≡ false
-and_false true c h = cc h
-and_false false c h = refl
-
 pub no_gift_no_begin : (a : ℕ) (k : Key) (act : HistAct) → gives a k act ≡ false → begins a k act ≡ false
-no_gift_no_begin a k (Gave b j i) h = and_false (is_pair a k b j) (is_begin i.event) h
+no_gift_no_begin a k (Gave b j i) h = and_left (is_pair a k b j) (is_begin i.event) h
 no_gift_no_begin a k (Subscribed b j l) h = refl
 no_gift_no_begin a k (Unsubscribed b j) h = refl
 no_gift_no_begin a k (Closed b) h = refl

@@ -2,7 +2,7 @@
 use Rattle.std.proofs.Common.{◌≡◌, ℕ, suc, ◌<◌, ◌≤◌, Bool, true, false, ◌&&◌, ◌||◌, ◌==◌, not, nat_eq, List, [], ◌∷◌, length, drop, refl, sym, ◌∙◌, ap, arith, Option, Some, None, inl, inr}
 use Rattle.std.specs.Prelude.{if◌then◌else◌, is_some, ◌⊎◌}
 use Rattle.std.specs.List.{filter}
-use Rattle.std.proofs.lemmas.Bool.{cases_Bool}
+use Rattle.std.proofs.lemmas.Bool.{cases_Bool, and_right}
 use Rattle.std.proofs.lemmas.Bool.Decides.{nat_tests}
 use Rattle.std.proofs.lemmas.List.Folds.{list_any-append}
 use Rattle.qd_scheme.specs.declared.key.Key.{Key}
@@ -28,10 +28,6 @@ use Rattle.qd_hist_rules.specs.Standing.{standing, restarts, overflows_by, all_s
 use Rattle.qd_hist_rules.proofs.ActFacts.{is_subscribed, given_stays, no_gift_no_begin}
 use Rattle.qd_hist_rules.proofs.Begun.{begin_stays}
 use Rattle.qd_hist_rules.proofs.Shares.{shares_stay}
-
-and_right : (b c : Bool) → c ≡ false → (b && c) ≡ false
-and_right true c h = h
-and_right false c h = refl
 
 -- what an act does not do that neither puts an event of the key nor concerns the pair
 pub record Elsewhere (a : ℕ) (k : Key) (act : HistAct) : Type 0 where

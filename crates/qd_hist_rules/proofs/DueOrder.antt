@@ -4,6 +4,7 @@ use Rattle.std.specs.Prelude.{if◌then◌else◌}
 use Rattle.std.specs.List.{filter}
 use Rattle.std.proofs.lemmas.Bool.{eq-eqb}
 use Rattle.std.proofs.lemmas.List.{append-nil}
+use Rattle.std.proofs.Math.Bool.{and-true}
 use Rattle.qd_scheme.specs.declared.key.Key.{Key}
 use Rattle.qd_scheme.specs.Keys.{key_eq}
 use Rattle.qd_scheme.proofs.KeyLaws.{key_eq-comm, key_eq-same}
@@ -16,10 +17,6 @@ use Rattle.qd_hist_rules.specs.Moments.{HistAct, HistMoment, fills}
 use Rattle.qd_hist_rules.specs.Standing.{is_due, due_keys}
 use Rattle.qd_hist_rules.proofs.DueKeys.{due_mark, new_test}
 
-and_true : (b : Bool) → (b && true) ≡ b
-and_true true = refl
-and_true false = refl
-
 -- the key that the act is about comes last, if it becomes due
 begun_now : (t : Terms) (a : ℕ) (act : HistAct) (m : HistMoment) (k : Key) → fills a k act ≡ false
     → begun_at (fills a) (is_due t a) (act ∷ m) (suc (length m)) (Some k) ≡ (if is_due t a k (act ∷ m) && not (is_due t a k m) then k ∷ [] else [])
@@ -28,7 +25,7 @@ begun_now t a act m k n =
     ap (λ (b : Bool). if b then k ∷ [] else [])
     (new_test (is_due t a k (act ∷ m)) (is_due t a k m) (fills a k act) (since (fills a k) (is_due t a k) m) (length m) (since-≤ (fills a k) (is_due t a k) m)
     ∙ ap (λ (b : Bool). is_due t a k (act ∷ m) && not (is_due t a k m && not b)) n
-    ∙ ap (λ (b : Bool). is_due t a k (act ∷ m) && not b) (and_true (is_due t a k m)))
+    ∙ ap (λ (b : Bool). is_due t a k (act ∷ m) && not b) (and-true (is_due t a k m)))
 
 -- an act that is no mark: the keys that are due still, in order, and then the one that the act is about, if it becomes due
 pub due_keys-step : (t : Terms) (a : ℕ) (act : HistAct) (m : HistMoment) (k : Key) → newest_key (act ∷ m) ≡ Some k → ((y : Key) → fills a y act ≡ false)
@@ -39,7 +36,7 @@ due_keys-step t a act m k q n =
     ∙ ap (λ (ks : List Key). filter (λ (y : Key). is_due t a y (act ∷ m) && not (fills a y act)) (due_keys t a m) ++ ks) (begun_now t a act m k (n k))
     ∙ ap (λ (ks : List Key). ks ++ (if is_due t a k (act ∷ m) && not (is_due t a k m) then k ∷ [] else []))
     (filter-agree_within (λ (y : Key). is_due t a y m) (λ (y : Key). is_due t a y (act ∷ m) && not (fills a y act)) (λ (y : Key). is_due t a y (act ∷ m)) (due_keys t a m) (by_since-holds newest_key (fills a) (is_due t a) m)
-    (λ y h. ap (λ (b : Bool). is_due t a y (act ∷ m) && not b) (n y) ∙ and_true (is_due t a y (act ∷ m))))
+    (λ y h. ap (λ (b : Bool). is_due t a y (act ∷ m) && not b) (n y) ∙ and-true (is_due t a y (act ∷ m))))
 
 -- a mark of a key: it leaves its place, and comes last if it is due
 pub due_keys-mark : (t : Terms) (a : ℕ) (k : Key) (m : HistMoment) → due_keys t a (Full a k ∷ m) ≡ filter (λ (y : Key). not (key_eq k y)) (due_keys t a m) ++ (if is_due t a k m then k ∷ [] else [])
@@ -57,7 +54,7 @@ due_keys-same t a act m n same =
     ∙ ap (λ (ks : List Key). filter (λ (y : Key). is_due t a y (act ∷ m) && not (fills a y act)) (due_keys t a m) ++ ks) (none (newest_key (act ∷ m)))
     ∙ append-nil (filter (λ (y : Key). is_due t a y (act ∷ m) && not (fills a y act)) (due_keys t a m))
     ∙ filter-agree_within (λ (y : Key). is_due t a y m) (λ (y : Key). is_due t a y (act ∷ m) && not (fills a y act)) (λ (y : Key). true) (due_keys t a m) (by_since-holds newest_key (fills a) (is_due t a) m)
-    (λ y h. ap (λ (b : Bool). is_due t a y (act ∷ m) && not b) (n y) ∙ and_true (is_due t a y (act ∷ m)) ∙ same y ∙ h)
+    (λ y h. ap (λ (b : Bool). is_due t a y (act ∷ m) && not b) (n y) ∙ and-true (is_due t a y (act ∷ m)) ∙ same y ∙ h)
     ∙ filter-all (due_keys t a m)
   where
     and_not : (b : Bool) → (b && not b) ≡ false

@@ -1,7 +1,7 @@
 -- After the end of a snapshot the next event owed is lawful: it shows what its number says.
 use Rattle.std.proofs.Common.{◌≡◌, ℕ, zero, suc, ◌≤◌, ◌<◌, Bool, true, false, ◌&&◌, ◌||◌, ◌==◌, not, List, [], ◌∷◌, ◌++◌, length, reverse, drop, length-append, refl, sym, ◌∙◌, ap, arith, Option, Some, None, inl, inr, subst}
 use Rattle.std.specs.Prelude.{if◌then◌else◌, is_some, option_map, nat_le, ◌⊎◌, IfSome, slice_get}
-use Rattle.std.proofs.lemmas.Bool.{cases_Bool, eqb-true, and_parts, and_from}
+use Rattle.std.proofs.lemmas.Bool.{cases_Bool, eqb-true, and_parts, and_from, or_right}
 use Rattle.std.proofs.lemmas.Option.{same_Some}
 use Rattle.std.proofs.Math.Path.{fun_ext}
 use Rattle.qd_scheme.specs.declared.key.Key.{Key}
@@ -144,10 +144,6 @@ begun_step true y z g h e = cc e
 begun_step false true z g h e = cc h
 begun_step false false z g h e = h
 
-or_true : (x y : Bool) → y ≡ true → (x || y) ≡ true
-or_true true y h = refl
-or_true false y h = h
-
 -- where a BEGIN counts, one was given
 pub begun_given : (t : Terms) (a : ℕ) (k : Key) (m : HistMoment) → (standing t a m k).begin_given ≡ true → has_begin (events (given a k m)) ≡ true
 begun_given t a k [] h = cc h
@@ -164,7 +160,7 @@ begun_given t a k (act ∷ m) h = go (cases_Bool (gives a k act)) (begun_given t
       where
         at : (i : HistItem) (b : Bool) → is_begin i.event ≡ b → (standing t a (Gave a k i ∷ m) k).begin_given ≡ true → has_begin (i.event ∷ events (given a k m)) ≡ true
         at i true q h = ap (λ (b : Bool). b || has_begin (events (given a k m))) q
-        at i false q h = or_true (is_begin i.event) (has_begin (events (given a k m)))
+        at i false q h = or_right (is_begin i.event) (has_begin (events (given a k m)))
             (ih (begun_step (begins a k (Gave a k i)) (restarts (standing t a m) t a k (Gave a k i) m) true (standing t a m k).begin_given h (and_false (is_pair a k a k) (is_begin i.event) q)))
 
 owed_is : (base a : ℕ) (k : Key) (n : ℕ) (m : HistMoment) → at_end (snapshot a k m) ≡ Some n → owed base a k m ≡ drop (length (after_end (snapshot a k m))) (shares_after base a k m n)

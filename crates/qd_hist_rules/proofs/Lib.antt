@@ -8,6 +8,7 @@ pub mod Serve
 pub mod Shares
 pub mod AllFit
 pub mod EndedFit
+pub mod LastMade
 pub mod SnapshotItems
 pub mod LegalLogs
 pub mod LastCommits

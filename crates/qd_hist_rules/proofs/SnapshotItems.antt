@@ -2,7 +2,7 @@
 use Rattle.std.proofs.Common.{◌≡◌, ℕ, ◌+◌, ◌≤◌, ◌<◌, Bool, true, false, ◌&&◌, ◌||◌, ◌==◌, not, List, [], ◌∷◌, refl, sym, ◌∙◌, ap, arith, cond, Option, Some, None, inl, inr, subst}
 use Rattle.std.specs.Prelude.{if◌then◌else◌, is_some, option_map, find, nat_le, nat_lt, pos, replicate, ◌⊎◌, IfSome}
 use Rattle.std.specs.List.{list_any, fold}
-use Rattle.std.proofs.lemmas.Bool.{eq-eqb, and_parts, and_from, le-leb, lt-leb, ne_eqb, lt-ltb, cases_order}
+use Rattle.std.proofs.lemmas.Bool.{eq-eqb, and_parts, and_from, le-leb, lt-leb, ne_eqb, lt-ltb, cases_order, or_right, or_left}
 use Rattle.std.proofs.Math.Path.{fun_ext}
 use Rattle.std.proofs.lemmas.Option.{same_Some}
 use Rattle.qd_scheme.specs.declared.key.Key.{Key}
@@ -25,10 +25,6 @@ use Rattle.qd_hist_rules.specs.Lawful.{LawfulItem, NumberFits, same_cells, same_
 use Rattle.qd_hist_rules.specs.Snapshots.{AllAbove, Inside, Kept, Shared, AtFloor}
 use Rattle.qd_hist_rules.proofs.ActFacts.{given_now}
 use Rattle.qd_hist_rules.proofs.EndedFit.{begun_given, events_since}
-
-or_right : (a b : Bool) → b ≡ true → (a || b) ≡ true
-or_right true b h = refl
-or_right false b h = h
 
 found_any : (n : ℕ) (p : Commit → Bool) (b : Commit) (cs : List Commit) → find (λ (c : Commit). c.number == n) cs ≡ Some b → p b ≡ true → list_any p cs ≡ true
 found_any n p b [] h q = cc h
@@ -138,10 +134,6 @@ kept_lawful t a k i m g = record {
 or_middle : (a b c : Bool) → b ≡ true → (a || b || c) ≡ true
 or_middle true b c h = refl
 or_middle false b c h = ap (λ (x : Bool). x || c) h
-
-or_left : (a b : Bool) → a ≡ true → (a || b) ≡ true
-or_left true b h = refl
-or_left false b h = cc h
 
 pub shared_lawful : (t : Terms) (a : ℕ) (k : Key) (i : HistItem) (m : HistMoment) → Shared t a k i m → LawfulItem t a k i m
 shared_lawful t a k i m g = record {

@@ -1,13 +1,14 @@
 -- The laws of the history in one log.
 use Rattle.std.specs.Prelude.{◌≡◌, ◌≤◌, ℕ, true, List, [], ◌∷◌, Option, Some, None, slice_get}
 use Rattle.qd_scheme.specs.declared.key.Key.{Key}
-use Rattle.qd_flags.specs.Shown.{Shown, shown, cut}
+use Rattle.qd_flags.specs.Shown.{Shown, shown, cut, left_by, since_begin}
 use Rattle.qd_gate.specs.declared.machine.Terms.{Terms}
 use Rattle.qd_sub.specs.Subscriptions.{limit_of}
+use Rattle.qd_hist_rules.specs.declared.floor.AgentFloor.{AgentFloor}
 use Rattle.qd_hist_rules.specs.declared.item.HistItem.{HistItem}
 use Rattle.qd_hist_rules.specs.Moments.{HistMoment, events, given}
-use Rattle.qd_hist_rules.specs.Source.{Commit, commit}
-use Rattle.qd_hist_rules.specs.Agent.{begin_moment, owed}
+use Rattle.qd_hist_rules.specs.Source.{Commit, commit, last}
+use Rattle.qd_hist_rules.specs.Agent.{agent_floor, begin_moment, owed, with_items}
 use Rattle.qd_hist_rules.specs.Standing.{is_ended}
 use Rattle.qd_hist_rules.specs.Lawful.{Lawful, LawfulItem, NoneAbove}
 use Rattle.qd_hist_rules.specs.Legal.{HistoryEntry, moment_of, IsLegal}
@@ -44,3 +45,15 @@ LegalIsLawful = (terms : Terms) (log : List HistoryEntry) → IsLegal terms log 
 -- the next item owed to an ended pair may always be given
 abbrev pub OwedIsLawful : Type 0
 OwedIsLawful = (terms : Terms) (now : HistMoment) → Lawful terms now → (a : ℕ) (k : Key) (i : HistItem) → is_ended terms a k now ≡ true → slice_get (owed terms.base a k now) 0 ≡ Some i → LawfulItem terms a k i now
+
+-- what an agent was given since its last BEGIN, and then what it is owed, make the map of the last commit, at or above its floor
+pub record MakesLast (terms : Terms) (a : ℕ) (k : Key) (now : HistMoment) : Type 0 where
+  pub floor : AgentFloor
+  pub commit_c : Commit
+  pub floor_is : agent_floor terms.base a k now ≡ Some floor
+  pub last_is : last terms.base k now ≡ Some commit_c
+  pub map_is : with_items floor.index (cut floor.index (left_by (since_begin (events (given a k now))))) (owed terms.base a k now) ≡ cut floor.index commit_c.shown.map
+
+-- nothing is missing: an ended pair that has been given what it is owed shows the last commit
+abbrev pub OwedMakesLast : Type 0
+OwedMakesLast = (terms : Terms) (now : HistMoment) → Lawful terms now → (a : ℕ) (k : Key) → is_ended terms a k now ≡ true → MakesLast terms a k now

@@ -1,5 +1,5 @@
 //! Laws of the history, each the contract of a function that does nothing.
-ghost use Rattle.qd_hist_rules.specs.Laws.{WholeShowsOne, LegalIsLawful, OwedIsLawful};
+ghost use Rattle.qd_hist_rules.specs.Laws.{WholeShowsOne, LegalIsLawful, OwedIsLawful, OwedMakesLast};
 ghost use Rattle.qd_hist_rules.specs.Snapshots.{KeptIsLawful, SharedIsLawful, AtFloorIsLawful};
 
 /// In a legal log each item that was given was lawful at its place.
@@ -15,6 +15,11 @@ pub fn whole_shows_one()
 /// After the end of a snapshot the next item owed may always be given.
 pub fn owed_is_lawful()
     ensures owed { OwedIsLawful }
+{}
+
+/// After the end of a snapshot nothing is missing: what was given, and then what is owed, make the map of the last commit.
+pub fn owed_makes_last()
+    ensures makes { OwedMakesLast }
 {}
 
 /// Inside a snapshot these items may always be given: kept ones in falling order, events of the shares, and at last the item at the floor.
