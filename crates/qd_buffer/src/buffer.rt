@@ -45,6 +45,7 @@ impl<T: Copy> Buffer<T> {
         })
     }
 
+    /// One more item at the end. The caller sees to it that there is room.
     pub fn push(&mut self, item: T)
         requires { length self.old.items < self.old.room }
         ensures { self.new ≡ with_items self.old (self.old.items ++ item ∷ []) }
@@ -52,18 +53,21 @@ impl<T: Copy> Buffer<T> {
         let _ = self.items.push(item);
     }
 
+    /// The item at a place, from 0.
     pub fn get(&self, i: usize) -> Option<&T>
         ensures { option_copied result ≡ slice_get self.now.items i }
     {
         self.items.get(i)
     }
 
+    /// No items; the room stays.
     pub fn clear(&mut self)
         ensures { self.new ≡ with_items self.old [] }
     {
         self.items.clear();
     }
 
+    /// The items, oldest first.
     pub fn as_slice(&self) -> &[T]
         ensures items { result.now ≡ self.now.items }
         ensures within { length self.now.items ≤ self.now.room }

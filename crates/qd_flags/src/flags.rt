@@ -59,42 +59,49 @@ impl Flags {
         Some(Flags { bits })
     }
 
+    /// The flags as bits, as `of` takes them.
     pub fn bits(&self) -> u8
         ensures { result ≡ self.now }
     {
         self.bits
     }
 
+    /// Whether the transaction goes on with later events.
     pub fn tx_pending(&self) -> bool
         ensures { result ≡ has_bits self.now 1 }
     {
         self.bits & Flags::TX_PENDING != 0
     }
 
+    /// Whether what stands at the index is to be taken out.
     pub fn remove_event(&self) -> bool
         ensures { result ≡ has_bits self.now 2 }
     {
         self.bits & Flags::REMOVE_EVENT != 0
     }
 
+    /// Whether this is the first event of a snapshot.
     pub fn snapshot_begin(&self) -> bool
         ensures { result ≡ has_bits self.now 4 }
     {
         self.bits & Flags::SNAPSHOT_BEGIN != 0
     }
 
+    /// Whether this is the last event of a snapshot, with all data sent.
     pub fn snapshot_end(&self) -> bool
         ensures { result ≡ has_bits self.now 8 }
     {
         self.bits & Flags::SNAPSHOT_END != 0
     }
 
+    /// Whether this is the last event of a snapshot, after which no more data comes.
     pub fn snapshot_snip(&self) -> bool
         ensures { result ≡ has_bits self.now 16 }
     {
         self.bits & Flags::SNAPSHOT_SNIP != 0
     }
 
+    /// Whether the bit is set, which has no effect here.
     pub fn snapshot_mode(&self) -> bool
         ensures { result ≡ has_bits self.now 64 }
     {

@@ -2,6 +2,7 @@
 use Rattle.std.proofs.Common.{◌≡◌, ℕ, ◌<◌, ◌≤◌, Bool, true, false, ◌||◌, List, [], ◌∷◌, length, refl, sym, ◌∙◌, ap, arith, Option, Some, None, inl, inr}
 use Rattle.std.specs.Prelude.{if◌then◌else◌, nat_le, is_some, ◌⊎◌}
 use Rattle.std.proofs.lemmas.Bool.{cases_Bool, leb-true, leb-false, eq-eqb, ne_eqb}
+use Rattle.std.proofs.Math.Bool.{or-true}
 use Rattle.qd_scheme.specs.declared.key.Key.{Key}
 use Rattle.qd_scheme.specs.declared.key.Event.{Event}
 use Rattle.qd_entries.specs.declared.Entry.{Entry}
@@ -87,12 +88,8 @@ width_known (e ∷ es) h = go (is_begin e) h (width_known es)
     go true h ih = refl
     go false h ih = ih h
 
-or_true : (b : Bool) → (b || true) ≡ true
-or_true true = refl
-or_true false = refl
-
 -- the width of the state is that of the source's last BEGIN
 pub width_is : (base : ℕ) (k : Key) (m : HistMoment) (c : Commit) (state : Kept) → last base k m ≡ Some c → keeping.StandsFor state (source k m) → state.width ≡ Some (width_of (source k m))
 width_is base k m c state l s =
     s.width_is ∙ width_known (source k m)
-    (begin_known (source k m) ∙ ap (λ (o : Option Shown). has_begin (after_place (source k m)) || is_some o) (last_place base k m c l) ∙ or_true (has_begin (after_place (source k m))))
+    (begin_known (source k m) ∙ ap (λ (o : Option Shown). has_begin (after_place (source k m)) || is_some o) (last_place base k m c l) ∙ or-true (has_begin (after_place (source k m))))

@@ -2,7 +2,7 @@
 use Rattle.std.proofs.Common.{◌≡◌, ℕ, ◌+◌, ◌<◌, ◌≤◌, Bool, true, false, ◌&&◌, ◌||◌, not, List, [], ◌∷◌, length, reverse, length-append, refl, sym, ◌∙◌, ap, arith, Option, Some, None, inl, inr, subst}
 use Rattle.std.specs.Prelude.{◌⊎◌, if◌then◌else◌, is_some, nat_le, nat_lt, map, sum}
 use Rattle.std.specs.List.{list_any, filter_map, cons_option}
-use Rattle.std.proofs.lemmas.Bool.{cases_Bool, and_parts, and_from, ltb-true, lt-ltb}
+use Rattle.std.proofs.lemmas.Bool.{cases_Bool, and_parts, and_from, ltb-true, lt-ltb, not-true}
 use Rattle.std.proofs.lemmas.List.{length-map, length-reverse}
 use Rattle.std.proofs.lemmas.List.Sums.{sum_by-cons}
 use Rattle.qd_scheme.specs.declared.key.Key.{Key}
@@ -150,16 +150,12 @@ any_not p (j ∷ ks) k h there = go (key_eq k j) refl (p j) refl (list_any p ks)
     go true e false pj d r h there ih = ap p (key_eq-true k j e) ∙ pj
     go false e false pj d r h there ih = ih (r ∙ h) there
 
-not_any : (b : Bool) → not b ≡ true → b ≡ false
-not_any true h = cc h
-not_any false h = refl
-
 -- what is owed by the feeds of an agent's subscriptions
 pub owed-in_all : (t : Terms) (a : ℕ) (m : HistMoment) (name : ℕ → Option Key) (feed : ℕ → Feeding) (slots : List ℕ) → Feeds t a m name feed → keys_of a m ≡ filter_map name slots → Owes t a m (sum (map (λ slot. length (feed slot).owed) slots))
 owed-in_all t a m name feed slots h e = record {
   within = subst (λ (ks : List Key). sum (map (λ slot. length (feed slot).owed) slots) ≤ sum (map (λ k. behind t a k m) ks)) (sym e) (owed-within t a m name feed slots h);
   settled = λ all.
-      owed-settled t a m name feed slots h (ap (λ (ks : List Key). list_any (unsettled t a m) ks) (sym e) ∙ not_any (list_any (unsettled t a m) (keys_of a m)) all)
+      owed-settled t a m name feed slots h (ap (λ (ks : List Key). list_any (unsettled t a m) ks) (sym e) ∙ not-true (list_any (unsettled t a m) (keys_of a m)) all)
       ∙ sym (ap (λ (ks : List Key). sum (map (λ k. behind t a k m) ks)) e);
 }
 
@@ -265,7 +261,7 @@ update-goes_on t a k s e c f m o h owes fl q sn few =
         let p = and_parts (not (is_snapshot c) && begun_by (standing t a m) a k m) (passes_hcap (standing t a m) t a m (share t.base a k m c)) over in
         let b = (and_parts (not (is_snapshot c)) (begun_by (standing t a m) a k m) p.0).1 in
         let there : has_key (keys_of a m) k ≡ true = keys_of-has a m k ∙ (and_parts (subscribed a k m) (standing t a m k).begin_given b).0 in
-        let u = any_not (unsettled t a m) (keys_of a m) k (not_any (list_any (unsettled t a m) (keys_of a m)) all) there in
+        let u = any_not (unsettled t a m) (keys_of a m) k (not-true (list_any (unsettled t a m) (keys_of a m)) all) there in
         let n = more-ended t a k s f c m fl (settled_ended t a k s m h b u).0 in
         let same = owes.settled all in
         let x = passed (standing t a m) t a m (share t.base a k m c) p.1 in

@@ -5,6 +5,7 @@ use Rattle.std.specs.List.{list_any}
 use Rattle.std.proofs.lemmas.Bool.{cases_Bool, eq-eqb, ne_eqb, and_from, ltb-true, ltb-false}
 use Rattle.std.proofs.lemmas.List.{reverse-append}
 use Rattle.std.proofs.lemmas.List.Sums.{sum_by-cons, sum_by-append}
+use Rattle.std.proofs.Math.Bool.{or-true, or-false}
 use Rattle.qd_scheme.specs.declared.key.Event.{Event}
 use Rattle.qd_scheme.specs.declared.cells.Cells.{Cells}
 use Rattle.qd_flags.specs.Bits.{is_begin, is_remove}
@@ -46,19 +47,11 @@ above_append f (x ∷ xs) e = ap (λ (b : Bool). nat_le f x.index || b) (above_a
     go true = refl
     go false = refl
 
-or_true : (b : Bool) → (b || true) ≡ true
-or_true true = refl
-or_true false = refl
-
-or_false : (b : Bool) → (b || false) ≡ b
-or_false true = refl
-or_false false = refl
-
 -- one more event that is at or above the floor comes last, and makes those before it pending
 share_last : (f : ℕ) (n : Option ℕ) (xs : List Event) (e : Event) → nat_le f e.index ≡ true → share_items f n (xs ++ e ∷ []) ≡ held_of f xs ++ item_of n false e ∷ []
 share_last f n [] e h = ap (λ (b : Bool). (if b then item_of n false e ∷ [] else []) ++ []) h
 share_last f n (x ∷ xs) e h =
-    let pending : has_above f (xs ++ e ∷ []) ≡ true = above_append f xs e ∙ ap (λ (b : Bool). has_above f xs || b) h ∙ or_true (has_above f xs) in
+    let pending : has_above f (xs ++ e ∷ []) ≡ true = above_append f xs e ∙ ap (λ (b : Bool). has_above f xs || b) h ∙ or-true (has_above f xs) in
     ap (λ (b : Bool). (if nat_le f x.index then item_of n b x ∷ [] else []) ++ share_items f n (xs ++ e ∷ [])) pending
     ∙ ap (λ (ys : List HistItem). (if nat_le f x.index then held_item x ∷ [] else []) ++ ys) (share_last f n xs e h)
     ∙ sym (append_assoc (if nat_le f x.index then held_item x ∷ [] else []) (held_of f xs) (item_of n false e ∷ []))
@@ -67,7 +60,7 @@ share_last f n (x ∷ xs) e h =
 share_below : (f : ℕ) (n : Option ℕ) (xs : List Event) (e : Event) → nat_le f e.index ≡ false → share_items f n (xs ++ e ∷ []) ≡ share_items f n xs
 share_below f n [] e h = ap (λ (b : Bool). (if b then item_of n false e ∷ [] else []) ++ []) h
 share_below f n (x ∷ xs) e h =
-    let same : has_above f (xs ++ e ∷ []) ≡ has_above f xs = above_append f xs e ∙ ap (λ (b : Bool). has_above f xs || b) h ∙ or_false (has_above f xs) in
+    let same : has_above f (xs ++ e ∷ []) ≡ has_above f xs = above_append f xs e ∙ ap (λ (b : Bool). has_above f xs || b) h ∙ or-false (has_above f xs) in
     ap (λ (b : Bool). (if nat_le f x.index then item_of n b x ∷ [] else []) ++ share_items f n (xs ++ e ∷ [])) same
     ∙ ap (λ (ys : List HistItem). (if nat_le f x.index then item_of n (has_above f xs) x ∷ [] else []) ++ ys) (share_below f n xs e h)
 
@@ -244,7 +237,7 @@ owed_behind place xs ys (i ∷ is) w =
   where
     any_back : (xs : List HistItem) → list_any (λ d. is_event i.event d.event) (xs ++ ys) ≡ true
     any_back [] = w.0.shared
-    any_back (x ∷ xs) = ap (λ (b : Bool). is_event i.event x.event || b) (any_back xs) ∙ or_true (is_event i.event x.event)
+    any_back (x ∷ xs) = ap (λ (b : Bool). is_event i.event x.event || b) (any_back xs) ∙ or-true (is_event i.event x.event)
 
 pub owed_append : (place : ℕ) (shares xs ys : List HistItem) → AllOwed place shares xs → AllOwed place shares ys → AllOwed place shares (xs ++ ys)
 owed_append place shares [] ys v w = w

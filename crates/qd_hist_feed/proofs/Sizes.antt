@@ -2,7 +2,7 @@
 use Rattle.std.proofs.Common.{◌≡◌, ℕ, ◌+◌, ◌<◌, Bool, true, false, ◌&&◌, ◌||◌, not, nat_eq, List, [], ◌∷◌, ◌++◌, length, refl, sym, ◌∙◌, ap, arith, Option, Some, None}
 use Rattle.std.specs.Prelude.{◌^◌, if◌then◌else◌, is_some, nat_le, map, filter, option_map}
 use Rattle.std.specs.List.{list_any, AllByRecursion, IsDistinct}
-use Rattle.std.proofs.lemmas.Bool.{eqb-true, eq-eqb, ne_eqb}
+use Rattle.std.proofs.lemmas.Bool.{eqb-true, eq-eqb, ne_eqb, and_from}
 use Rattle.std.proofs.lemmas.Cmp.{nat_eq_equiv}
 use Rattle.std.proofs.lemmas.List.{length-reverse}
 use Rattle.std.proofs.lemmas.List.Folds.{list_any-append}
@@ -30,10 +30,6 @@ exact m n h = eqb-true m n h
 
 apart : (m n : ℕ) → nat_eq m n ≡ false → nat_eq n m ≡ false
 apart m n h = ne_eqb n m (λ e. let t : nat_eq m n ≡ true = eq-eqb m n (sym e) in cc (t, h))
-
-both_true : (a b : Bool) → a ≡ true → b ≡ true → (a && b) ≡ true
-both_true true b p q = q
-both_true false b p q = p
 
 or_none : (a b : Bool) → (a || b) ≡ false → (a ≡ false) × (b ≡ false)
 or_none true b h = cc h
@@ -63,7 +59,7 @@ not_below i (x ∷ xs) h = let lt : x.index < i = h.0 in ap (λ (b : Bool). b ||
 indexes-once : (xs : List Entry) → Falls xs → once nat_eq (indexes xs) ≡ true
 unfolding once
 indexes-once [] f = refl
-indexes-once (x ∷ xs) f = both_true (not (list_any (nat_eq x.index) (indexes xs))) (once nat_eq (indexes xs)) (ap not (not_below x.index xs f.0)) (indexes-once xs f.1)
+indexes-once (x ∷ xs) f = and_from (not (list_any (nat_eq x.index) (indexes xs))) (once nat_eq (indexes xs)) (ap not (not_below x.index xs f.0)) (indexes-once xs f.1)
 
 indexes-has : (xs : List Entry) (q : ℕ) → list_any (nat_eq q) (indexes xs) ≡ is_some (cells_at xs q)
 indexes-has [] q = refl
@@ -87,7 +83,7 @@ left-once (e ∷ es) = go (is_remove e) (once-filter nat_eq exact (λ i. not (na
   where
     go : (b : Bool) → once nat_eq (but e.index (left_indexes es)) ≡ true → once nat_eq ((if b then [] else e.index ∷ []) ++ but e.index (left_indexes es)) ≡ true
     go true ih = ih
-    go false ih = both_true (not (list_any (nat_eq e.index) (but e.index (left_indexes es)))) (once nat_eq (but e.index (left_indexes es))) (ap not (gone e.index (left_indexes es))) ih
+    go false ih = and_from (not (list_any (nat_eq e.index) (but e.index (left_indexes es)))) (once nat_eq (but e.index (left_indexes es))) (ap not (gone e.index (left_indexes es))) ih
 
 left-has : (es : List Event) (q : ℕ) → list_any (nat_eq q) (left_indexes es) ≡ is_some (left_by es q)
 left-has [] q = refl

@@ -1,7 +1,7 @@
 -- A feed stands for what happens: acts that concern neither the pair nor the key's commits, and commits.
 use Rattle.std.proofs.Common.{◌≡◌, ℕ, ◌<◌, ◌≤◌, Bool, true, false, ◌&&◌, ◌||◌, not, List, [], ◌∷◌, ◌++◌, reverse, length, length-append, drop, refl, sym, ◌∙◌, ap, arith, Option, Some, None, inl, inr, subst}
 use Rattle.std.specs.Prelude.{◌⊎◌, is_some, nat_le}
-use Rattle.std.proofs.lemmas.Bool.{cases_Bool, and_parts, and_from, le-leb}
+use Rattle.std.proofs.lemmas.Bool.{cases_Bool, and_parts, and_from, le-leb, or_right, or_left}
 use Rattle.std.proofs.lemmas.Option.{same_Some}
 use Rattle.std.proofs.lemmas.List.{append-nil}
 use Rattle.qd_scheme.specs.declared.key.Key.{Key}
@@ -108,14 +108,6 @@ owed_quiet t a k act m ng nm same bg =
     at : (o : Option ℕ) → agent_floor t.base a k (act ∷ m) ≡ agent_floor t.base a k m → owed_with t.base a k (act ∷ m) (snapshot a k m) o ≡ owed_with t.base a k m (snapshot a k m) o
     at None fl = refl
     at (Some n) fl = ap (λ (xs : List HistItem). drop (length (after_end (snapshot a k m))) xs) (shares_stay t.base a k n act m nm fl)
-
-or_right : (b c : Bool) → c ≡ true → (b || c) ≡ true
-or_right true c h = refl
-or_right false c h = h
-
-or_left : (b c : Bool) → b ≡ true → (b || c) ≡ true
-or_left true c h = refl
-or_left false c h = cc h
 
 or_second : (b c : Bool) → (b || c) ≡ true → b ≡ false → c ≡ true
 or_second true c h e = cc e

@@ -1,6 +1,6 @@
 -- What an act that is not about a key leaves of it.
 use Rattle.std.proofs.Common.{◌≡◌, ◌⊎◌, inl, inr, ℕ, Bool, true, false, ◌&&◌, if◌then◌else◌, nat_eq, Option, None, List, [], ◌∷◌, reverse, refl, ap, sym, ◌∙◌}
-use Rattle.std.proofs.lemmas.Bool.{cases_Bool}
+use Rattle.std.proofs.lemmas.Bool.{cases_Bool, and_right}
 use Rattle.qd_scheme.specs.declared.key.Key.{Key}
 use Rattle.qd_scheme.specs.declared.key.Event.{Event}
 use Rattle.qd_scheme.specs.Keys.{key_eq}
@@ -21,10 +21,6 @@ pub and-false : (b : Bool) → (b && false) ≡ false
 and-false true = refl
 and-false false = refl
 
-and-right : (b c : Bool) → c ≡ false → (b && c) ≡ false
-and-right true c h = h
-and-right false c h = refl
-
 pub no-put : (k : Key) (act : HistAct) (now : HistMoment) → is_about key_eq k (newest_key (act ∷ now)) ≡ false → is_put k act ≡ false
 no-put k (Came j e) now h = h
 no-put k (Subscribed b j limit) now h = refl
@@ -35,7 +31,7 @@ no-put k (Told w j total) now h = refl
 no-put k (Full b j) now h = refl
 
 pub no-gift : (a : ℕ) (k : Key) (act : HistAct) (now : HistMoment) → is_about key_eq k (newest_key (act ∷ now)) ≡ false → gives a k act ≡ false
-no-gift a k (Gave b j i) now h = and-right (nat_eq a b) (key_eq k j) h
+no-gift a k (Gave b j i) now h = and_right (nat_eq a b) (key_eq k j) h
 no-gift a k (Came j e) now h = refl
 no-gift a k (Subscribed b j limit) now h = refl
 no-gift a k (Unsubscribed b j) now h = refl
@@ -44,7 +40,7 @@ no-gift a k (Told w j total) now h = refl
 no-gift a k (Full b j) now h = refl
 
 pub no-sub : (a : ℕ) (k : Key) (act : HistAct) (now : HistMoment) → is_about key_eq k (newest_key (act ∷ now)) ≡ false → subscribes a k act ≡ false
-no-sub a k (Subscribed b j limit) now h = and-right (nat_eq a b) (key_eq k j) h
+no-sub a k (Subscribed b j limit) now h = and_right (nat_eq a b) (key_eq k j) h
 no-sub a k (Came j e) now h = refl
 no-sub a k (Unsubscribed b j) now h = refl
 no-sub a k (Closed b) now h = refl

@@ -1,6 +1,7 @@
 -- What an event of a wanted key makes: a commit or none, as the answer of the key's state tells.
 use Rattle.std.proofs.Common.{◌≡◌, ℕ, suc, Bool, true, false, ◌&&◌, ◌||◌, List, [], ◌∷◌, refl, sym, ◌∙◌, ap, Option, Some, None}
 use Rattle.std.specs.Prelude.{if◌then◌else◌, is_some, option_map}
+use Rattle.std.proofs.lemmas.Bool.{and_right}
 use Rattle.qd_scheme.specs.declared.key.Key.{Key}
 use Rattle.qd_scheme.specs.declared.key.Event.{Event}
 use Rattle.qd_scheme.proofs.KeyLaws.{key_eq-same}
@@ -60,13 +61,9 @@ pub count_by : (base : ℕ) (k : Key) (e : Event) (m : HistMoment) → wanted k 
     → count base (Came k e ∷ m) ≡ (if makes_commit (answer_to (source k (Came k e ∷ m))) then suc (count base m) else count base m)
 count_by base k e m w = ap (λ (b : Bool). if b then suc (count base m) else count base m) (commits_by k e m w)
 
-and_false : (p q : Bool) → q ≡ false → (p && q) ≡ false
-and_false true q h = h
-and_false false q h = refl
-
 -- no commit of any key is made where none is made now
 no_commit : (base : ℕ) (j : Key) (m : HistMoment) → commits_now m ≡ false → made base j m ≡ None
-no_commit base j m h = rw (and_false (puts_now j m) (commits_now m) h) refl
+no_commit base j m h = rw (and_right (puts_now j m) (commits_now m) h) refl
 
 pub made_none : (base : ℕ) (k : Key) (e : Event) (m : HistMoment) → wanted k m ≡ true → makes_commit (answer_to (source k (Came k e ∷ m))) ≡ false → made base k (Came k e ∷ m) ≡ None
 made_none base k e m w h = no_commit base k (Came k e ∷ m) (commits_by k e m w ∙ h)

@@ -4,6 +4,7 @@ use Rattle.std.specs.Prelude.{if◌then◌else◌, is_some, nat_lt, nat_le}
 use Rattle.std.proofs.lemmas.Bool.{lt-ltb}
 use Rattle.std.proofs.lemmas.Bool.Decides.{nat_tests}
 use Rattle.std.proofs.lemmas.List.{append-nil, reverse-append}
+use Rattle.std.proofs.Math.Bool.{and-true}
 use Rattle.qd_scheme.specs.declared.key.Key.{Key}
 use Rattle.qd_scheme.specs.declared.key.Event.{Event}
 use Rattle.qd_flags.specs.declared.commits.Ingest.{Ingest}
@@ -28,10 +29,6 @@ begins_anew Held = false
 begins_anew Update = false
 begins_anew Snapshot = true
 
-and_true : (b : Bool) → (b && true) ≡ b
-and_true true = refl
-and_true false = refl
-
 not_empty : (owed is : List HistItem) (i : HistItem) → is_empty (owed ++ i ∷ is) ≡ false
 not_empty [] is i = refl
 not_empty (j ∷ js) is i = refl
@@ -52,7 +49,7 @@ pub queue_then : (hcap : ℕ) (answer : Ingest) (floor before : Option AgentFloo
     → (part_after hcap answer floor n batch slot p).queue ≡ queued p.queue slot (waits floor (part_after hcap answer floor n batch slot p).feed)
 queue_then hcap Ignored floor before n batch slot p same h = sym (queued-same p.queue slot (waits floor p.feed) (h ∙ ap (λ (o : Option AgentFloor). waits o p.feed) (sym (same refl))))
 queue_then hcap Held floor before n batch slot p same h = sym (queued-same p.queue slot (waits floor p.feed) (h ∙ ap (λ (o : Option AgentFloor). waits o p.feed) (sym (same refl))))
-queue_then hcap Snapshot floor before n batch slot p same h = ap (λ (b : Bool). queued p.queue slot b) (sym (and_true (is_some floor)))
+queue_then hcap Snapshot floor before n batch slot p same h = ap (λ (b : Bool). queued p.queue slot b) (sym (and-true (is_some floor)))
 queue_then hcap Update floor before n batch slot p same h = go floor (h ∙ ap (λ (o : Option AgentFloor). waits o p.feed) (sym (same refl)))
   where
     by : (f : AgentFloor) → has p.queue slot ≡ not (is_done p.feed) → (b : Bool) →

@@ -2,6 +2,7 @@
 use Rattle.std.proofs.Common.{◌≡◌, inl, inr, ℕ, ◌+◌, ◌^◌, Bool, true, false, ◌||◌, nat_lt, Option, Some, None, is_some, length, refl, ap, sym, ◌∙◌}
 use Rattle.std.proofs.Math.Path.{fun_ext}
 use Rattle.std.specs.List.{filter}
+use Rattle.std.proofs.Math.Bool.{or-false}
 use Rattle.qd_scheme.specs.declared.key.Key.{Key}
 use Rattle.qd_scheme.specs.declared.key.Event.{Event}
 use Rattle.qd_sub.specs.Subscriptions.{subscribed, wanted, keys_of}
@@ -16,10 +17,6 @@ use Rattle.qd_hist_rules.specs.Moments.{HistMoment}
 use Rattle.qd_hist_rules.specs.Legal.{too_many_keys, too_many_subs, is_full, is_spent}
 use Rattle.qd_hist_stand.specs.Stripes.{Shown, StandsAt, no_keeps}
 use Rattle.qd_hist_stand.specs.Laws.{FullIsTold, SpentIsTold, FaultIsTold}
-
-or-false : (b : Bool) → (b || false) ≡ b
-or-false true = refl
-or-false false = refl
 
 -- the wanted keys are those that the table says
 pub wanted-key : (s : Shown) (now : HistMoment) → StandsAt s now → (k : Key) → wanted k now ≡ is_wanted_key s.table k

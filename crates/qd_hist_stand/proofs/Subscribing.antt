@@ -1,5 +1,6 @@
 -- A stripe stands after a subscription.
 use Rattle.std.proofs.Common.{◌≡◌, ◌⊎◌, inl, inr, ℕ, Bool, true, false, ◌&&◌, ◌||◌, not, if◌then◌else◌, nat_eq, Option, Some, None, is_some, List, ◌∷◌, reverse, refl, ap, sym, ◌∙◌, subst}
+use Rattle.std.proofs.Math.Bool.{and-true}
 use Rattle.qd_scheme.specs.declared.key.Key.{Key}
 use Rattle.qd_scheme.specs.declared.key.Event.{Event}
 use Rattle.qd_scheme.specs.Keys.{key_eq}
@@ -49,10 +50,6 @@ last-sub base j a k limit now = go (wanted j (Subscribed a k limit ∷ now)) ref
     go true f b e = ap (λ (x : Bool). if x then last base j now else None) f
     go false f true e = absurd (true-false (sym (wanted-sub j a k limit now e) ∙ f))
     go false f false e = ap (λ (x : Bool). if x then last base j now else None) f ∙ sym (last-unwanted base j now e)
-
-and-true : (b : Bool) → (b && true) ≡ b
-and-true true = refl
-and-true false = refl
 
 -- a pair that was just subscribed is not begun
 begun-sub : (terms : Terms) (a : ℕ) (k : Key) (limit : ℕ) (now : HistMoment) → is_begun terms a k (Subscribed a k limit ∷ now) ≡ false

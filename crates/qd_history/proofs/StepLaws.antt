@@ -7,6 +7,7 @@ use Rattle.qd_scheme.specs.declared.key.Event.{Event}
 use Rattle.qd_scheme.specs.Keys.{key_eq}
 use Rattle.qd_scheme.proofs.KeyLaws.{key_eq-same}
 use Rattle.std.proofs.lemmas.Bool.Decides.{nat_tests}
+use Rattle.std.proofs.lemmas.Bool.{not-true}
 use Rattle.qd_flags.specs.declared.commits.Floor.{Floor}
 use Rattle.qd_buffer.specs.Filled.{Filled, with_items}
 use Rattle.qd_gate.specs.declared.machine.Terms.{Terms}
@@ -181,10 +182,6 @@ removes-stand l a (k ∷ ks) s t now st (mid, step, rest) =
 -- a Close
 abbrev close_lead : ℕ → HistMoment → HistMoment
 close_lead a now = after now (map (Unsubscribed a) (keys_of a now) ++ Closed a ∷ [])
-
-not-true : (b : Bool) → not b ≡ true → b ≡ false
-not-true true h = sym h
-not-true false h = refl
 
 and-left : (a b : Bool) → (a && b) ≡ true → a ≡ true
 and-left true b h = refl

@@ -4,18 +4,11 @@ use Rattle.std.specs.Prelude.{Option, Some, None}
 use Rattle.std.specs.List.{filter, list_any}
 use Rattle.std.proofs.lemmas.List.{append-nil}
 use Rattle.std.proofs.lemmas.List.Folds.{list_any-append}
+use Rattle.std.proofs.Math.Bool.{and-true, or-false}
 use Rattle.qd_sub.specs.Since.{since, unbroken, begun_at, begun_within, by_since}
 use Rattle.qd_sub.proofs.SinceLaws.{by_since-step, by_since-holds}
 use Rattle.qd_sub.proofs.OrderLaws.{is_about, any-filter, any-one, once, once-filter, once-end}
 use Rattle.qd_sub.proofs.OrderSteps.{begins-at}
-
-and-true : (b : Bool) → (b && true) ≡ b
-and-true true = refl
-and-true false = refl
-
-or-false : (b : Bool) → (b || false) ≡ b
-or-false true = refl
-or-false false = refl
 
 module _ {A X : Type 0} (about : List A → Option X) (holds : X → List A → Bool) (eq : X → X → Bool) (exact : (x y : X) → eq x y ≡ true → x ≡ y) where
   -- the fact begins only with an act about the one of which it holds

@@ -2,6 +2,8 @@
 use Rattle.std.proofs.Common.{◌≡◌, ◌⊎◌, inl, inr, ℕ, ◌≤◌, min, Bool, true, false, ◌&&◌, ◌||◌, not, if◌then◌else◌, nat_eq, Option, Some, None, is_some, List, [], ◌∷◌, refl, ap, sym, ◌∙◌, arith}
 use Rattle.std.proofs.lemmas.Bool.Decides.{nat_tests}
 use Rattle.std.specs.List.{filter, list_any, filter_map, cons_option}
+use Rattle.std.proofs.Math.Bool.{and-false}
+use Rattle.std.proofs.lemmas.Bool.{or_left, or_right}
 use Rattle.qd_scheme.specs.declared.key.Key.{Key}
 use Rattle.qd_scheme.specs.Keys.{key_eq}
 use Rattle.qd_scheme.proofs.KeyLaws.{key_eq-true, key_eq-comm}
@@ -15,10 +17,6 @@ use Rattle.qd_sub.proofs.OrderLaws.{is_about, by_since-has, once, by_since-once}
 use Rattle.qd_sub.proofs.OrderSteps.{by_since-about}
 use Rattle.qd_sub.proofs.SubscriptionLaws.{subscribed-closed, wanted-by, wanted-agent, wanted-subscribed, known-closed}
 use Rattle.qd_sub.proofs.StepLaws.{subscribed-about}
-
-and-false : (b : Bool) → (b && false) ≡ false
-and-false true = refl
-and-false false = refl
 
 same-truth : (a b : Bool) → (a ≡ true → b ≡ true) → (b ≡ true → a ≡ true) → a ≡ b
 same-truth true true f g = refl
@@ -84,14 +82,6 @@ any-found p (x ∷ xs) h =
     elim [ true ↦ λ e. (x, e) | false ↦ λ e. any-found p xs (rw e at h) ] in
     go (p x) refl
 
-or-left : (a b : Bool) → a ≡ true → (a || b) ≡ true
-or-left true b h = refl
-or-left false b h = cc
-
-or-right : (a b : Bool) → b ≡ true → (a || b) ≡ true
-or-right true b h = refl
-or-right false b h = h
-
 or-cases : (a b : Bool) → (a || b) ≡ true → (a ≡ true) ⊎ (b ≡ true)
 or-cases true b h = inl refl
 or-cases false b h = inr h
@@ -99,11 +89,11 @@ or-cases false b h = inr h
 -- a key is held where an agent is subscribed to it, or a watcher knows a total of it
 pub held-agent : {P T : Type 0} (a : ℕ) (k : Key) (now : Moment P T) → subscribed a k now ≡ true → held k now ≡ true
 unfolding held
-held-agent a k now h = or-left (wanted k now) (list_any (λ w. is_some (known w k now)) (watchers now)) (wanted-subscribed a k now h)
+held-agent a k now h = or_left (wanted k now) (list_any (λ w. is_some (known w k now)) (watchers now)) (wanted-subscribed a k now h)
 
 pub held-watcher : {P T : Type 0} (w : ℕ) (k : Key) (now : Moment P T) → is_some (known w k now) ≡ true → held k now ≡ true
 unfolding held
-held-watcher w k now h = or-right (wanted k now) (list_any (λ v. is_some (known v k now)) (watchers now)) (any-there (λ v. is_some (known v k now)) w (watchers now) h (watcher-listed w k now h))
+held-watcher w k now h = or_right (wanted k now) (list_any (λ v. is_some (known v k now)) (watchers now)) (any-there (λ v. is_some (known v k now)) w (watchers now) h (watcher-listed w k now h))
 
 -- and only there
 pub held-holder : {P T : Type 0} (k : Key) (now : Moment P T) → held k now ≡ true → ((a : ℕ) × (subscribed a k now ≡ true)) ⊎ ((w : ℕ) × (is_some (known w k now) ≡ true))
@@ -243,7 +233,7 @@ least-some (x ∷ ns) m h =
     let go : (o : Option ℕ) → least ns ≡ o → elim o [ None ↦ x | Some y ↦ min x y ] ≡ m → IsLeast (x ∷ ns) m =
     elim [
       | None ↦ λ e f. record {
-        there = or-left (nat_eq m x) (stands_in ns m) (ap (λ z. nat_eq m z) f ∙ same_number m);
+        there = or_left (nat_eq m x) (stands_in ns m) (ap (λ z. nat_eq m z) f ∙ same_number m);
         below = λ n t. elim (or-cases (nat_eq n x) (stands_in ns n) t) [
           | inl g ↦ let s : n ≡ x = number-true n x g in omega (arith, s, f)
           | inr g ↦ let z : true ≡ false = sym g ∙ least-none ns n e in cc
@@ -292,13 +282,13 @@ map-there : (f : ℕ → Option ℕ) (bs : List ℕ) (a n : ℕ) → list_any (�
 map-there f [] a n h e = cc
 map-there f (b ∷ bs) a n h e =
     elim (or-cases (nat_eq a b) (list_any (λ b. nat_eq a b) bs) h) [
-      | inl g ↦ let s : f b ≡ Some n = ap f (sym (number-true a b g)) ∙ e in rw s (or-left (nat_eq n n) (stands_in (filter_map f bs) n) (same_number n))
+      | inl g ↦ let s : f b ≡ Some n = ap f (sym (number-true a b g)) ∙ e in rw s (or_left (nat_eq n n) (stands_in (filter_map f bs) n) (same_number n))
       | inr g ↦ cons-there (f b) (filter_map f bs) n (map-there f bs a n g e)
     ]
   where
     cons-there : (o : Option ℕ) (ns : List ℕ) (n : ℕ) → stands_in ns n ≡ true → stands_in (cons_option o ns) n ≡ true
     cons-there None ns n h = h
-    cons-there (Some m) ns n h = or-right (nat_eq n m) (stands_in ns n) h
+    cons-there (Some m) ns n h = or_right (nat_eq n m) (stands_in ns n) h
 
 map-from : (f : ℕ → Option ℕ) (bs : List ℕ) (n : ℕ) → stands_in (filter_map f bs) n ≡ true → (a : ℕ) × (f a ≡ Some n)
 map-from f [] n h = cc

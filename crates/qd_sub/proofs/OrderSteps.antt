@@ -4,6 +4,7 @@ use Rattle.std.proofs.lemmas.Bool.Decides.{nat_tests}
 use Rattle.std.proofs.lemmas.List.{append-nil}
 use Rattle.std.proofs.lemmas.List.Folds.{list_any-append}
 use Rattle.std.specs.List.{filter, list_any}
+use Rattle.std.proofs.lemmas.Bool.{and_left}
 use Rattle.qd_sub.specs.Since.{since, begun_at, begun_within, by_since}
 use Rattle.qd_sub.proofs.SinceLaws.{since-≤, by_since-step, by_since-holds, filter-agree_within, filter-all, grown, same_number}
 use Rattle.qd_sub.proofs.OrderLaws.{is_about, any-filter, any-one, once, once-filter, once-end}
@@ -25,9 +26,6 @@ begins-at breaks holds act now x = begun-test (holds x (act ∷ now)) (holds x n
 
 stays-true : (h b : Bool) → h ≡ true → b ≡ false → (h && not b) ≡ true
 stays-true h b p q = rw (p, q) refl
-
-and-first : (h b : Bool) → h ≡ false → (h && b) ≡ false
-and-first h b p = rw p refl
 
 -- an act about x that breaks nothing: x stays, comes last or leaves, by whether the fact holds of it then, and all others stay
 pub by_since-about : {A X : Type 0} (about : List A → Option X) (breaks : X → A → Bool) (holds : X → List A → Bool) (eq : X → X → Bool) → ((x y : X) → eq x y ≡ true → x ≡ y) → (act : A) (now : List A) (x : X) →
@@ -66,7 +64,7 @@ by_since-about about breaks holds eq exact act now x a unbroken others has =
     but_x h y t =
         let go : (c : Bool) → eq x y ≡ c → (holds y (act ∷ now) && not (breaks y act)) ≡ not c =
         elim [
-          | true ↦ λ e. and-first (holds y (act ∷ now)) (not (breaks y act)) (ap (λ z. holds z (act ∷ now)) (sym (exact x y e)) ∙ h)
+          | true ↦ λ e. and_left (holds y (act ∷ now)) (not (breaks y act)) (ap (λ z. holds z (act ∷ now)) (sym (exact x y e)) ∙ h)
           | false ↦ λ e. stays-true (holds y (act ∷ now)) (breaks y act) (others y e ∙ t) (unbroken y)
         ] in
         go (eq x y) refl

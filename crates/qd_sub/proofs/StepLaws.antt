@@ -2,6 +2,7 @@
 use Rattle.std.proofs.Common.{◌≡◌, ℕ, Bool, true, false, ◌&&◌, ◌||◌, not, if◌then◌else◌, nat_eq, Option, Some, [], ◌∷◌, refl, ap, ◌∙◌, arith}
 use Rattle.std.proofs.lemmas.Bool.Decides.{nat_tests}
 use Rattle.std.specs.List.{filter, list_any}
+use Rattle.std.proofs.Math.Bool.{and-false}
 use Rattle.qd_scheme.specs.declared.key.Key.{Key}
 use Rattle.qd_scheme.specs.Keys.{key_eq}
 use Rattle.qd_scheme.proofs.KeyLaws.{key_eq-same, key_eq-true, key_eq-comm}
@@ -25,10 +26,6 @@ subscribed-full a k b j now = refl
 pub subscribed-empty : (P T : Type 0) (a : ℕ) (k : Key) → subscribed {P = P} {T = T} a k [] ≡ false
 unfolding subscribed limit_of
 subscribed-empty P T a k = refl
-
-and-false : (b : Bool) → (b && false) ≡ false
-and-false true = refl
-and-false false = refl
 
 -- an act about another key leaves who is subscribed to this one
 pub subscribed-about : {P T : Type 0} (a : ℕ) (act : Act P T) (now : Moment P T) (k : Key) → is_about key_eq k (newest_key (act ∷ now)) ≡ false → subscribed a k (act ∷ now) ≡ subscribed a k now

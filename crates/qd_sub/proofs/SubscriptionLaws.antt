@@ -2,6 +2,7 @@
 use Rattle.std.proofs.Common.{◌≡◌, ℕ, Bool, true, false, ◌&&◌, ◌||◌, not, if◌then◌else◌, nat_eq, Some, None, is_some, List, [], ◌∷◌, ◌++◌, refl, ap, sym, ◌∙◌, arith}
 use Rattle.std.proofs.lemmas.Bool.Decides.{nat_tests}
 use Rattle.std.specs.List.{list_any}
+use Rattle.std.proofs.lemmas.Bool.{or_right}
 use Rattle.qd_scheme.specs.declared.key.Key.{Key}
 use Rattle.qd_scheme.specs.Keys.{key_eq}
 use Rattle.qd_scheme.proofs.KeyLaws.{key_eq-same}
@@ -125,17 +126,13 @@ any-more p q (x ∷ xs) more h =
     ] in
     go (p x) refl
 
-or-right : (a b : Bool) → b ≡ true → (a || b) ≡ true
-or-right true b h = refl
-or-right false b h = h
-
 -- a subscription makes no key unwanted
 pub wanted-sub : {P T : Type 0} (k : Key) (b : ℕ) (j : Key) (limit : ℕ) (now : Moment P T) → wanted k now ≡ true → wanted k (Subscribed b j limit ∷ now) ≡ true
 unfolding wanted agents
 wanted-sub k b j limit now h =
-    or-right (subscribed b k (Subscribed b j limit ∷ now)) (list_any (λ a. subscribed a k (Subscribed b j limit ∷ now)) (agents now))
+    or_right (subscribed b k (Subscribed b j limit ∷ now)) (list_any (λ a. subscribed a k (Subscribed b j limit ∷ now)) (agents now))
     (any-more (λ a. subscribed a k now) (λ a. subscribed a k (Subscribed b j limit ∷ now)) (agents now)
-    (λ a t. subscribed-sub a k b j limit now ∙ or-right (is_pair a k b j) (subscribed a k now) t) h)
+    (λ a t. subscribed-sub a k b j limit now ∙ or_right (is_pair a k b j) (subscribed a k now) t) h)
 
 pub kept-came_other : {P T : Type 0} (k j : Key) (item : P) (now : Moment P T) → key_eq k j ≡ false → kept k (Came j item ∷ now) ≡ kept k now
 kept-came_other k j item now h =

@@ -2,6 +2,7 @@
 use Rattle.std.proofs.Common.{◌≡◌, ℕ, suc, Bool, true, false, ◌&&◌, ◌||◌, not, if◌then◌else◌, nat_eq, Option, Some, None, is_some, List, [], ◌∷◌, ◌++◌, length, refl, ap, sym, ◌∙◌}
 use Rattle.std.proofs.lemmas.List.{append-nil}
 use Rattle.std.specs.List.{filter}
+use Rattle.std.proofs.Math.Bool.{and-false}
 use Rattle.qd_scheme.specs.declared.key.Key.{Key}
 use Rattle.qd_scheme.specs.Keys.{key_eq}
 use Rattle.qd_scheme.proofs.KeyLaws.{key_eq-true, key_eq-comm}
@@ -15,10 +16,6 @@ use Rattle.qd_sub.proofs.OrderLaws.{is_about, once}
 use Rattle.qd_sub.proofs.OrderSteps.{begins-at, by_since-about, by_since-has_broken, by_since-once_broken}
 use Rattle.qd_sub.proofs.WatchLaws.{differing, wanted-told, total-told, known-told_other}
 use Rattle.qd_sub.proofs.HeldLaws.{wanted-about, known-about, total-about}
-
-and-false : (b : Bool) → (b && false) ≡ false
-and-false true = refl
-and-false false = refl
 
 -- a key that is unwanted has lapsed, once anything happened
 lapsed-unwanted : {P T : Type 0} (w : ℕ) (k : Key) (act : Act P T) (past : Moment P T) → wanted k (act ∷ past) ≡ false → lapsed w k (act ∷ past) ≡ true

@@ -1,6 +1,7 @@
 -- An act about one key leaves what is kept and pending of every other.
 use Rattle.std.proofs.Common.{◌≡◌, ℕ, Bool, true, false, ◌&&◌, not, if◌then◌else◌, nat_eq, Option, Some, None, List, [], ◌∷◌, refl, ap, sym, ◌∙◌}
 use Rattle.std.specs.List.{filter}
+use Rattle.std.proofs.Math.Bool.{and-false}
 use Rattle.qd_scheme.specs.declared.key.Key.{Key}
 use Rattle.qd_scheme.specs.declared.key.Record.{Record}
 use Rattle.qd_scheme.specs.Keys.{key_eq}
@@ -17,10 +18,6 @@ use Rattle.qd_sub.proofs.StepLaws.{subscribed-about, subscribed-empty}
 use Rattle.qd_sub.proofs.HeldLaws.{wanted-about}
 use Rattle.qd_ticker.specs.Pending.{TickerMoment, last, last_record, pending, queue_of}
 use Rattle.qd_ticker.proofs.PendingLaws.{same-pending, pending-unsubscribed}
-
-and-false : (b : Bool) → (b && false) ≡ false
-and-false true = refl
-and-false false = refl
 
 -- where a key is wanted as before, and the act puts nothing of it, what is kept of it stays
 pub kept-same : (k : Key) (act : Act Record Record) (now : TickerMoment) → wanted k (act ∷ now) ≡ wanted k now → ((items : List Record) → and_put k act items ≡ items) → kept k (act ∷ now) ≡ kept k now

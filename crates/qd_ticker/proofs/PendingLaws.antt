@@ -1,6 +1,7 @@
 -- What each act does to what is pending.
 use Rattle.std.proofs.Common.{◌≡◌, ℕ, suc, ◌≤◌, Bool, true, false, ◌&&◌, nat_eq, nat_lt, max, List, [], ◌∷◌, ◌++◌, length, refl, sym, ◌∙◌, arith}
 use Rattle.std.proofs.lemmas.Bool.Decides.{nat_tests}
+use Rattle.std.proofs.Math.Bool.{and-false, and-true}
 use Rattle.qd_scheme.specs.declared.key.Key.{Key}
 use Rattle.qd_scheme.specs.declared.key.Record.{Record}
 use Rattle.qd_scheme.specs.Keys.{key_eq}
@@ -49,10 +50,6 @@ same_number n = grind (arith, nat_tests)
 pub is_pair-same : (a : ℕ) (k : Key) → is_pair a k a k ≡ true
 is_pair-same a k = rw (same_number a) (key_eq-same k)
 
-and-false : (b : Bool) → (b && false) ≡ false
-and-false true = refl
-and-false false = refl
-
 pub pending-gave_same : (a : ℕ) (k : Key) (r : Record) (now : TickerMoment) → pending a k (Gave a k r ∷ now) ≡ false
 unfolding pending
 pending-gave_same a k r now =
@@ -69,10 +66,6 @@ pending-sub_other a k b j limit now h = same-pending a k (Subscribed b j limit) 
 
 lt-began : (g l p : ℕ) → g ≤ l → nat_lt g (max (suc l) p) ≡ true
 lt-began g l p h = grind (arith, nat_tests)
-
-and-true : (b : Bool) → (b && true) ≡ b
-and-true true = refl
-and-true false = refl
 
 -- a new subscription finds what is kept pending
 pub pending-sub_new : (a : ℕ) (k : Key) (limit : ℕ) (now : TickerMoment) → subscribed a k now ≡ false → pending a k (Subscribed a k limit ∷ now) ≡ has_items (kept k now)

@@ -1,5 +1,6 @@
 -- A step keeps what the stripe stands for, and its entry is lawful.
 use Rattle.std.proofs.Common.{◌≡◌, ◌⊎◌, inl, inr, ℕ, ◌<◌, Bool, true, false, ◌||◌, if◌then◌else◌, nat_lt, Option, Some, None, is_some, List, [], ◌∷◌, ◌++◌, length, map, take, refl, ap, sym, ◌∙◌, subst}
+use Rattle.std.proofs.Math.Bool.{or-false}
 use Rattle.qd_scheme.specs.declared.key.Key.{Key}
 use Rattle.qd_scheme.specs.declared.key.Record.{Record}
 use Rattle.qd_buffer.specs.Filled.{Filled, with_items}
@@ -31,10 +32,6 @@ use Rattle.qd_table.proofs.StandLaws.{watched-table}
 use Rattle.qd_table.proofs.TableCounts.{key-holder, fault-table}
 use Rattle.qd_ticker.proofs.TellLaws.{StandsAt-told}
 use Rattle.qd_ticker.proofs.WayLaws.{close_acts}
-
-or-false : (b : Bool) → (b || false) ≡ b
-or-false true = refl
-or-false false = refl
 
 -- the faults of the table are those of the moment
 held-slot : (s : Shown) (now : TickerMoment) (k : Key) → StandsAt s now → is_some (slot_for s.table k) ≡ held k now

@@ -40,6 +40,7 @@ impl Status {
         }
     }
 
+    /// The status as a process tells it, at most 7.
     pub fn get(&self) -> u8
         ensures value { result ≡ self.now }
         ensures within { self.now ≤ 7 }
