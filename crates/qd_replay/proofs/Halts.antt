@@ -1,6 +1,5 @@
 -- How a step ends a run, and how it goes on.
-use Rattle.std.proofs.Common.{ℕ, ◌≡◌, ◌⊎◌, inl, inr, Bool, true, false, Option, Some, None, Result, Ok, Err, List, [], ◌∷◌, ◌++◌, refl, sym, ◌∙◌, ap, append_assoc, map, subst}
-use Rattle.std.specs.Option.{option_map}
+use Rattle.std.proofs.Common.{ℕ, ◌≡◌, ◌==◌, ◌⊎◌, inl, inr, Bool, true, false, Option, Some, None, Result, Ok, Err, List, [], ◌∷◌, ◌++◌, refl, sym, ◌∙◌, ap, append_assoc, length, map, subst}
 use Rattle.std.proofs.lemmas.List.{append-nil}
 use Rattle.qd_buffer.specs.Filled.{Filled}
 use Rattle.qd_gate.specs.declared.machine.Entry.{Entry}
@@ -9,7 +8,9 @@ use Rattle.qd_outside.specs.Buffering.{Prints}
 use Rattle.qd_outside.specs.Writing.{IsCutShort}
 use Rattle.qd_outside.proofs.Streams.{Gained-more}
 use Rattle.qd_scheme.specs.declared.defs.RecordDef.{RecordDef}
+use Rattle.qd_scheme.specs.declared.key.Key.{Key}
 use Rattle.qd_scheme.specs.declared.key.Record.{Record}
+use Rattle.qd_sub.specs.declared.sub.Sub.{Sub}
 use Rattle.qd_sub.specs.declared.op.Op.{Op}
 use Rattle.qd_sub.specs.declared.op.Reply.{Reply}
 use Rattle.qd_sub.specs.declared.op.Reply.TheVariants as replies
@@ -24,6 +25,7 @@ use Rattle.qd_hist_rules.specs.declared.reply.HistoryReply.TheVariants as events
 use Rattle.qd_hist_rules.specs.Legal as history
 use Rattle.qd_hist_stand.specs.Stripes as history_stripes
 use Rattle.qd_gate.specs.declared.machine.Terms.{Terms}
+use Rattle.qd_grammar.specs.declared.item.Collector.{Collector}
 use Rattle.qd_grammar.specs.declared.item.Collector.TheVariants as collectors
 use Rattle.qd_grammar.specs.declared.item.Item.{Item}
 use Rattle.qd_grammar.specs.declared.item.Item.TheVariants as items
@@ -35,14 +37,14 @@ use Rattle.qd_replay.specs.declared.stripes.Stripes.{Stripes}
 use Rattle.qd_replay.specs.declared.stripes.Refusal.{Refusal}
 use Rattle.qd_replay.specs.declared.stripes.Refusal.TheVariants as refusals
 use Rattle.qd_replay.specs.declared.kind.Kind.TheVariants.{Body, Description, Control}
-use Rattle.qd_replay.specs.Calls.{Call, Answer, Act, empty_of, ticker_take, stream_take, history_take}
+use Rattle.qd_replay.specs.Calls.{Call, Answer, Act, full_of, asks, adds, removes}
 use Rattle.qd_replay.specs.Calls.Call.{Ticker, Stream, History}
 use Rattle.qd_replay.specs.Calls.Act.{Ask, Say}
-use Rattle.qd_replay.specs.Replies.{ReplyItem, line_of, reply_text, ticker_item, stream_item, history_item}
+use Rattle.qd_replay.specs.Replies.{line_of}
 use Rattle.qd_replay.specs.Running.{Logs, Ran, Has, Stand, AreLegal, Tells, TellsEvent, IsGranted, IsRefusal, IsTurnedDown, IsRefused, logged, text_of, with_call}
 use Rattle.qd_replay.specs.Scripts.{Script, Group, no_group, group_with, kind_of, is_full, is_bad, calls_of, after, acts_with, own_acts, led_by, goes_on}
 use Rattle.qd_replay.specs.Settings.{Caps, Setting}
-use Rattle.qd_replay.specs.Steps.{given_text, Grants, HasItems, GrantsEvent, HasEvents, Makes, Sunk, IsShown, IsAt, IsHalted, Stops, Kept, with_group, without_group, ended_by, WentOn, Turns, Gives, Halts, Hears, ActsItself, is_write_fault, ToldBy}
+use Rattle.qd_replay.specs.Steps.{Grants, GrantsEvent, Makes, Sunk, IsShown, IsAt, IsHalted, Stops, Kept, with_group, without_group, ended_by, WentOn, Turns, Gives, Halts, Hears, ActsItself, is_write_fault, ToldBy}
 
 -- the ticker took a step, and nothing else changed
 pub ticker_turns : (op : Op Record Record) (reply : Reply Record) (s t : Stripes)
@@ -99,13 +101,28 @@ refused_has : (call : Call) (reply : Answer call) (refusal : Refusal) (s t : Str
 refused_has call reply refusal s t set done out turn r h =
     record { call = call; one = refl; logs = h.logs; ran = h.ran; legal = h.legal; refused = (reply, r, (turn set.caps h.logs h.stand h.legal).1) }
 
+-- a call is asked for where there are items for it
+pub asked : {X : Type 0} (call : Filled X → Call) (xs : List X) → (length xs == 0) ≡ false → (one : Call) × (asks call xs ≡ Ask one ∷ [])
+asked call [] h = absurd (cc)
+asked call (x ∷ xs) h = (call (full_of (x ∷ xs)), refl)
+
+pub add_asked : (collector : Collector) (agent : ℕ) (subs : List Sub) → (length subs == 0) ≡ false → (one : Call) × (adds collector agent subs ≡ Ask one ∷ [])
+add_asked collectors.Ticker agent subs h = asked (λ items. Ticker (Op.Add agent items)) subs h
+add_asked collectors.Stream agent subs h = asked (λ items. Stream (Op.Add agent items)) subs h
+add_asked collectors.History agent subs h = asked (λ items. History (Op.Add agent items)) subs h
+
+pub remove_asked : (collector : Collector) (agent : ℕ) (keys : List Key) → (length keys == 0) ≡ false → (one : Call) × (removes collector agent keys ≡ Ask one ∷ [])
+remove_asked collectors.Ticker agent keys h = asked (λ items. Ticker (Op.Remove agent items)) keys h
+remove_asked collectors.Stream agent keys h = asked (λ items. Stream (Op.Remove agent items)) keys h
+remove_asked collectors.History agent keys h = asked (λ items. History (Op.Remove agent items)) keys h
+
 -- a call of the ticker, granted or refused
 pub ticker_asked : (op : Op Record Record) (reply : Reply Record) (result : Result (Unit {0}) Refusal) (s t : Stripes)
     → Turns (Ticker op) reply s t → Grants reply result → Makes (Ask (Ticker op) ∷ []) result s t
 ticker_asked op reply (Ok u) s t turn g = λ set done out h. granted_has (Ticker op) reply s t set done out turn (rw g tt) (rw g refl) h
 ticker_asked op reply (Err refusals.Spent) s t turn g = absurd g
 ticker_asked op reply (Err (refusals.TooMany limit)) s t turn g = λ set done out h. refused_has (Ticker op) reply (refusals.TooMany limit) s t set done out turn g h
-ticker_asked op reply (Err refusals.NoMemory) s t turn g = tt
+ticker_asked op reply (Err refusals.NoMemory) s t turn g = (Ticker op, refl)
 
 -- a call of the stream, granted or refused
 pub stream_asked : (op : stream.StreamOp) (reply : stream.StreamReply) (result : Result (Unit {0}) Refusal) (s t : Stripes)
@@ -113,7 +130,7 @@ pub stream_asked : (op : stream.StreamOp) (reply : stream.StreamReply) (result :
 stream_asked op reply (Ok u) s t turn g = λ set done out h. granted_has (Stream op) reply s t set done out turn (rw g tt) (rw g refl) h
 stream_asked op reply (Err refusals.Spent) s t turn g = absurd g
 stream_asked op reply (Err (refusals.TooMany limit)) s t turn g = λ set done out h. refused_has (Stream op) reply (refusals.TooMany limit) s t set done out turn g h
-stream_asked op reply (Err refusals.NoMemory) s t turn g = tt
+stream_asked op reply (Err refusals.NoMemory) s t turn g = (Stream op, refl)
 
 -- a call of the history, granted or refused
 pub history_asked : (op : history.HistoryOp) (reply : HistoryReply) (result : Result (Unit {0}) Refusal) (s t : Stripes)
@@ -121,7 +138,7 @@ pub history_asked : (op : history.HistoryOp) (reply : HistoryReply) (result : Re
 history_asked op reply (Ok u) s t turn g = λ set done out h. granted_has (History op) reply s t set done out turn (rw g tt) (rw g refl) h
 history_asked op reply (Err (refusals.TooMany limit)) s t turn g = λ set done out h. refused_has (History op) reply (refusals.TooMany limit) s t set done out turn g h
 history_asked op reply (Err refusals.Spent) s t turn g = λ set done out h. refused_has (History op) reply refusals.Spent s t set done out turn g h
-history_asked op reply (Err refusals.NoMemory) s t turn g = tt
+history_asked op reply (Err refusals.NoMemory) s t turn g = (History op, refl)
 
 -- none of what an item leads to is done
 pub halted : (end : RunEnd) (message : Option Message) (item : Item) (line : ℕ) (acts : List Act) (o : Sunk) (set : Setting) (done : List Act) (s : Stripes) (held : List ℕ) (w : Sunk)
@@ -137,6 +154,16 @@ halted end message item line acts o set done s held w at sound cause = record {
   told = rw sound at.shown;
   cause = cause;
 }
+
+-- memory was wanted for a call
+pub call_wanted : (call : Call) (message : Option Message) (item : Item) (line : ℕ) (o : Sunk) (set : Setting) (done : List Act) (s : Stripes) (held : List ℕ) (w : Sunk)
+    → IsAt o set done s held w → IsHalted NoMemory message item line (Ask call ∷ []) o set done held w
+call_wanted call message item line o set done s held w at = halted NoMemory message item line (Ask call ∷ []) o set done s held w at refl (inr (call, [], refl))
+
+-- memory was wanted for a body line
+pub line_wanted : (message : Option Message) (item : Item) (line : ℕ) (acts : List Act) (o : Sunk) (set : Setting) (done : List Act) (s : Stripes) (held : List ℕ) (w : Sunk)
+    → kind_of item ≡ Body → is_bad message item ≡ false → IsAt o set done s held w → IsHalted NoMemory message item line acts o set done held w
+line_wanted message item line acts o set done s held w k b at = halted NoMemory message item line acts o set done s held w at refl (inl (k, b))
 
 -- the call of a group is refused
 halted_by : (end : RunEnd) (refusal : Refusal) (message : Option Message) (item : Item) (line : ℕ) (acts calls : List Act) (o : Sunk) (set : Setting) (done : List Act) (s : Stripes) (held : List ℕ) (w : Sunk)
@@ -162,7 +189,8 @@ halted_refused (refusals.TooMany limit) message item line acts more calls o set 
 halted_refused refusals.Spent message item line acts more calls o set done s t held w e at made =
     let td = made set done at.out at.has in
     halted_by Spent refusals.Spent message item line acts calls o set done s held w at td refl (td.call, more, e ∙ ap (λ (l : List Act). more ++ l) td.one, td.refused)
-halted_refused refusals.NoMemory message item line acts more calls o set done s t held w e at made = halted NoMemory message item line acts o set done s held w at refl tt
+halted_refused refusals.NoMemory message item line acts more calls o set done s t held w e at made =
+    halted NoMemory message item line acts o set done s held w at refl (inr (made.0, more, e ∙ ap (λ (l : List Act). more ++ l) made.1))
 
 -- calls are made, and nothing is printed
 pub called : (calls : List Act) (o : Sunk) (set : Setting) (done : List Act) (s t : Stripes) (held : List ℕ) (w : Sunk)
@@ -353,21 +381,3 @@ control_refused refusal item line defs e f s t w k made held = λ o caps done at
 -- a script without an open group
 pub closed_script : (s : Script) → s.group ≡ no_group → s ≡ record { message = s.message; link = s.link; group = no_group }
 closed_script s h = let x : s ≡ record { message = s.message; link = s.link; group = no_group } = ap (λ (g : Group). record { message = s.message; link = s.link; group = g }) h in x
-
--- a TAKE of the ticker is answered with items
-pub ticker_gives : (link n : ℕ) (given : Option (Filled Record)) (out : Filled Record) (reply : Reply Record) (s t : Stripes)
-    → out ≡ empty_of 4096 → Turns (Ticker (Op.Take link n out)) reply s t → HasItems reply given → Gives (ticker_take link n) (option_map (given_text ticker_item collectors.Ticker link) given) s t
-ticker_gives link n (Some given) out reply s t e turn h = let x = rw (e, h) at turn in (replies.Items given, tt, λ defs. refl, x)
-ticker_gives link n None out reply s t e turn h = tt
-
--- a TAKE of the stream is answered with items
-pub stream_gives : (link n : ℕ) (given : Option (Filled StreamItem)) (out : Filled StreamItem) (reply : stream.StreamReply) (s t : Stripes)
-    → out ≡ empty_of 4096 → Turns (Stream (Op.Take link n out)) reply s t → HasItems reply given → Gives (stream_take link n) (option_map (given_text stream_item collectors.Stream link) given) s t
-stream_gives link n (Some given) out reply s t e turn h = let x = rw (e, h) at turn in (replies.Items given, tt, λ defs. refl, x)
-stream_gives link n None out reply s t e turn h = tt
-
--- a TAKE of the history is answered with items
-pub history_gives : (link n : ℕ) (given : Option (Filled HistItem)) (out : Filled HistItem) (reply : HistoryReply) (s t : Stripes)
-    → out ≡ empty_of 4096 → Turns (History (Op.Take link n out)) reply s t → HasEvents reply given → Gives (history_take link n) (option_map (given_text history_item collectors.History link) given) s t
-history_gives link n (Some given) out reply s t e turn h = let x = rw (e, h) at turn in (events.Items given, tt, λ defs. refl, x)
-history_gives link n None out reply s t e turn h = tt

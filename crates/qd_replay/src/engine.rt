@@ -134,6 +134,7 @@ impl Engine {
             Ok(out) => out,
         };
         match T::take(stripes, self.current_link(), n, out) {
+            // No lawful reply to a TAKE is without items.
             None => Some(RunEnd::NoMemory),
             Some(items) => {
                 if !self.show(scheme, items, sink) {

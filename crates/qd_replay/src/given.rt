@@ -1,5 +1,5 @@
 //! What the collectors give to a TAKE.
-ghost use Rattle.std.specs.Prelude.{◌≡◌, ◌≤◌, [], IfOk};
+ghost use Rattle.std.specs.Prelude.{◌≡◌, ◌≤◌, Some, [], IfOk};
 ghost use Rattle.qd_replay.specs.Calls.{empty_of};
 
 use crate::output::Shown;
@@ -25,9 +25,11 @@ pub struct Spares {
 
 /// An item that a collector gives.
 pub trait Given: Shown {
-    ghost use Rattle.std.specs.Prelude.{◌≡◌, ◌≤◌, ℕ};
+    ghost use Rattle.std.specs.Prelude.{◌≡◌, ◌≤◌, ℕ, Option, Some};
     ghost use Rattle.std.specs.Option.{option_map};
+    ghost use Rattle.qd_buffer.specs.Filled.{Filled};
     ghost use Rattle.qd_grammar.specs.declared.item.Collector.{Collector};
+    ghost use Rattle.qd_replay.specs.declared.given.Spares.{Spares};
     ghost use Rattle.qd_replay.specs.Calls.{Call, empty_of};
     ghost use Rattle.qd_replay.specs.Steps.{Gives, given_text};
 
@@ -37,16 +39,21 @@ pub trait Given: Shown {
     /// The call that asks for items.
     ghost take_call: { ℕ → ℕ → Call };
 
+    /// The buffer that is kept of it.
+    ghost spared: { Spares → Option (Filled Self) };
+
     fn collector() -> Collector
         ensures { result ≡ giver };
 
     /// The buffer of an earlier TAKE.
-    fn spare(spares: &mut Spares) -> Option<Buffer<Self>>;
+    fn spare(spares: &mut Spares) -> Option<Buffer<Self>>
+        ensures { result ≡ spared spares.old };
 
     /// Keeps a buffer for a later TAKE.
-    fn keep(spares: &mut Spares, buffer: Buffer<Self>);
+    fn keep(spares: &mut Spares, buffer: Buffer<Self>)
+        ensures { spared spares.new ≡ Some buffer };
 
-    /// Asks for at most n items. None where there was no memory.
+    /// Asks for at most n items, which each lawful reply has.
     fn take(
         stripes: &mut Stripes,
         agent: AgentNo,
@@ -70,6 +77,8 @@ impl Given for Record {
 
     ghost take_call = { ticker_take };
 
+    ghost spared = { λ s. s.records };
+
     fn collector() -> Collector {
         Collector::Ticker
     }
@@ -78,7 +87,9 @@ impl Given for Record {
         spares.records.take()
     }
 
-    fn keep(spares: &mut Spares, buffer: Buffer<Record>) {
+    fn keep(spares: &mut Spares, buffer: Buffer<Record>)
+        ensures { spares.new.records ≡ Some buffer }
+    {
         spares.records = Some(buffer);
     }
 
@@ -109,6 +120,8 @@ impl Given for StreamItem {
 
     ghost take_call = { stream_take };
 
+    ghost spared = { λ s. s.items };
+
     fn collector() -> Collector {
         Collector::Stream
     }
@@ -117,7 +130,9 @@ impl Given for StreamItem {
         spares.items.take()
     }
 
-    fn keep(spares: &mut Spares, buffer: Buffer<StreamItem>) {
+    fn keep(spares: &mut Spares, buffer: Buffer<StreamItem>)
+        ensures { spares.new.items ≡ Some buffer }
+    {
         spares.items = Some(buffer);
     }
 
@@ -148,6 +163,8 @@ impl Given for HistItem {
 
     ghost take_call = { history_take };
 
+    ghost spared = { λ s. s.events };
+
     fn collector() -> Collector {
         Collector::History
     }
@@ -156,7 +173,9 @@ impl Given for HistItem {
         spares.events.take()
     }
 
-    fn keep(spares: &mut Spares, buffer: Buffer<HistItem>) {
+    fn keep(spares: &mut Spares, buffer: Buffer<HistItem>)
+        ensures { spares.new.events ≡ Some buffer }
+    {
         spares.events = Some(buffer);
     }
 

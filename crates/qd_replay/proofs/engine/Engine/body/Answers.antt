@@ -1,11 +1,13 @@
-use Rattle.std.proofs.Common.{refl, sym, ap, ◌∙◌}
+use Rattle.std.proofs.Common.{sym, ap, ◌∙◌}
 use Rattle.qd_replay.specs.Scripts.{Group, group_with}
 use Rattle.qd_replay.specs.Steps.{Kept, with_group}
-use Rattle.qd_replay.proofs.Halts.{halted, body_refused}
+use Rattle.qd_replay.proofs.Halts.{line_wanted, body_refused}
 use Rattle.qd_replay.proofs.engine.Engine.body.Goals as goal
 
 pub returns-in-NoMemory : goal.returns-in-NoMemory
-returns-in-NoMemory c = λ defs w o caps done at. rw (ap (λ (k : Kept). k.held) c.self.view_is) (halted _ _ _ _ _ _ _ _ _ _ _ at refl tt)
+returns-in-NoMemory c =
+    let sound = rw (ap (λ (k : Kept). k.script.message) c.self.view_is) at c.in-NoMemory.ensures in
+    λ defs w o caps done at. rw (ap (λ (k : Kept). k.held) c.self.view_is) (line_wanted _ _ _ _ _ _ _ _ _ _ c.requires.body sound at)
 
 pub returns-in-Err : goal.returns-in-Err
 returns-in-Err c = λ defs w.

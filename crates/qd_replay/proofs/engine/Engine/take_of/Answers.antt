@@ -1,13 +1,13 @@
-use Rattle.std.proofs.Common.{refl, ap}
+use Rattle.std.proofs.Common.{ap}
 use Rattle.qd_replay.specs.Steps.{Kept, given_text}
-use Rattle.qd_replay.proofs.Halts.{halted, taken, taken_short}
+use Rattle.qd_replay.proofs.Halts.{call_wanted, taken, taken_short}
 use Rattle.qd_replay.proofs.engine.Engine.take_of.Goals as goal
 
 pub returns-in-Err-clause-takes : goal.returns-in-Err-clause-takes
-returns-in-Err-clause-takes g c = λ item line o caps done at. rw (ap (λ (k : Kept). k.held) c.self.view_is) (halted _ _ _ _ _ _ _ _ _ _ _ at refl tt)
+returns-in-Err-clause-takes g c = λ item line o caps done at. rw (ap (λ (k : Kept). k.held) c.self.view_is) (call_wanted _ _ _ _ _ _ _ _ _ _ at)
 
 pub returns-in-None-clause-takes : goal.returns-in-None-clause-takes
-returns-in-None-clause-takes g c = λ item line o caps done at. rw (ap (λ (k : Kept). k.held) c.self.view_is) (halted _ _ _ _ _ _ _ _ _ _ _ at refl tt)
+returns-in-None-clause-takes g c = λ item line o caps done at. absurd (c.in-None.ensures caps at.has.logs at.has.stand at.has.legal)
 
 pub returns-then-not-show-clause-takes : goal.returns-then-not-show-clause-takes
 returns-then-not-show-clause-takes g c =

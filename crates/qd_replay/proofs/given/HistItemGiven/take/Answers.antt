@@ -1,5 +1,6 @@
 use Rattle.std.proofs.Common.{refl}
-use Rattle.qd_replay.proofs.Halts.{history_turns, history_gives}
+use Rattle.qd_replay.proofs.Halts.{history_turns}
+use Rattle.qd_replay.proofs.Takes.{history_gives}
 use Rattle.qd_replay.proofs.given.HistItemGiven.take.Goals as goal
 
 pub returns : goal.returns

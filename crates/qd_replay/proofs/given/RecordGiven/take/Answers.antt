@@ -1,5 +1,6 @@
 use Rattle.std.proofs.Common.{refl}
-use Rattle.qd_replay.proofs.Halts.{ticker_turns, ticker_gives}
+use Rattle.qd_replay.proofs.Halts.{ticker_turns}
+use Rattle.qd_replay.proofs.Takes.{ticker_gives}
 use Rattle.qd_replay.proofs.given.RecordGiven.take.Goals as goal
 
 pub returns : goal.returns

@@ -1,5 +1,6 @@
 use Rattle.std.proofs.Common.{refl}
-use Rattle.qd_replay.proofs.Halts.{stream_turns, stream_gives}
+use Rattle.qd_replay.proofs.Halts.{stream_turns}
+use Rattle.qd_replay.proofs.Takes.{stream_gives}
 use Rattle.qd_replay.proofs.given.StreamItemGiven.take.Goals as goal
 
 pub returns : goal.returns
