@@ -14,6 +14,7 @@ use Rattle.qd_hist_stand.specs.Stripes.{Shown, Side, no_side, side_at, feed_at, 
 use Rattle.qd_hist_stand.specs.Steps.{Part, IsPartOf}
 use Rattle.qd_history.specs.Sides.{sided_at, spared_at, part_in, IsSided, IsSameSide}
 use Rattle.qd_history.specs.Sound.{IsPlaced, IsWithin, IsSound, HasSlots}
+use Rattle.qd_sub.proofs.SinceLaws.{and-left, and-right}
 
 -- the sides with another one at a place
 pub side-set : (sides : List Side) (a : ℕ) (x : Side) → a < length sides → (b : ℕ) → sided_at (slice_set sides a x) b ≡ (if nat_eq b a then x else sided_at sides b)
@@ -141,14 +142,6 @@ placed-added s t a slot limit k x p added room few is tracks feeds slots = recor
   where
     within : a < length s.sides
     within = omega (arith, p.agents)
-
-    and-left : (c d : Bool) → (c && d) ≡ true → c ≡ true
-    and-left true d h = refl
-    and-left false d h = cc
-
-    and-right : (c d : Bool) → (c && d) ≡ true → d ≡ true
-    and-right true d h = h
-    and-right false d h = cc
 
     was : (b i : ℕ) → is_subscribed (hold_for t.table b i) ≡ true → is_cell b i a slot ≡ false → is_subscribed (hold_for s.table b i) ≡ true
     was b i h f = sym (ap is_subscribed (added.holds b i) ∙ ap (λ c. is_subscribed (if c then Subscribed else hold_for s.table b i)) f) ∙ h

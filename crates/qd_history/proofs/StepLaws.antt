@@ -54,6 +54,7 @@ use Rattle.qd_hist_stand.proofs.Put.{put_stands}
 use Rattle.qd_hist_stand.proofs.Refusals.{full-told, spent-told, fault-told}
 use Rattle.qd_history.specs.Rooms.{wanted_count}
 use Rattle.qd_history.specs.Steps.{SubscribesAll, IsAdded, AddsBy, RemovesAt, RemovesAll, EndsAll, PutsAll, IsPutAll, PutsBy, is_full, is_spent, Gift, GivesEach, last_slot, IsIdleAt, IsIdle, Ends, Takes, items_of, StepsTo}
+use Rattle.qd_sub.proofs.SinceLaws.{and-left}
 
 -- the laws of a stripe, and that it judges as its moment does
 pub record HasLaws : Type 0 where
@@ -182,10 +183,6 @@ removes-stand l a (k ∷ ks) s t now st (mid, step, rest) =
 -- a Close
 abbrev close_lead : ℕ → HistMoment → HistMoment
 close_lead a now = after now (map (Unsubscribed a) (keys_of a now) ++ Closed a ∷ [])
-
-and-left : (a b : Bool) → (a && b) ≡ true → a ≡ true
-and-left true b h = refl
-and-left false b h = cc
 
 filter-alone : (ks : List Key) (k : Key) → has_key ks k ≡ false → filter (λ j. not (key_eq k j)) ks ≡ ks
 filter-alone [] k h = refl

@@ -12,7 +12,7 @@ use Rattle.qd_sub.specs.Acts.{Act, Subscribed, Unsubscribed, Closed, Came, Gave,
 use Rattle.qd_sub.specs.Subscriptions.{limit_of, subscribed, agents}
 use Rattle.qd_sub.specs.Watching.{known}
 use Rattle.qd_sub.specs.Holding.{watchers, newest_pair, has_key}
-use Rattle.qd_sub.proofs.SinceLaws.{same_number}
+use Rattle.qd_sub.proofs.SinceLaws.{same_number, and-right}
 use Rattle.qd_sub.proofs.SubscriptionLaws.{subscribed-sub, subscribed-unsub, subscribed-closed, subscribed-came, subscribed-gave}
 use Rattle.qd_sub.proofs.StepLaws.{subscribed-told, subscribed-full, subscribed-empty, pair_eq, pair_eq-true, pair_eq-comm}
 use Rattle.qd_sub.proofs.HeldLaws.{known-about}
@@ -161,10 +161,6 @@ module _ (cap : ℕ) where
   subscribed-before : (act : Act StreamItem StreamItem) (now : StreamMoment) (a : ℕ) (k : Key) → subscribed a k (act ∷ now) ≡ true → subscribed a k now ≡ false → is_about pair_eq (a, k) (newest_pair (act ∷ now)) ≡ true
   subscribed-before (Subscribed b j limit) now a k h none = elim (or-cases (is_pair a k b j) (subscribed a k now) (sym (subscribed-sub a k b j limit now) ∙ h)) [ inl t ↦ t | inr t ↦ absurd (true-false (sym t ∙ none)) ]
   subscribed-before (Unsubscribed b j) now a k h none = absurd (true-false (sym (and-right (not (is_pair a k b j)) (subscribed a k now) (sym (subscribed-unsub a k b j now) ∙ h)) ∙ none))
-    where
-      and-right : (c d : Bool) → (c && d) ≡ true → d ≡ true
-      and-right true d t = t
-      and-right false d t = cc
   subscribed-before (Came j item) now a k h none = absurd (true-false (sym h ∙ subscribed-came a k j item now ∙ none))
   subscribed-before (Gave b j item) now a k h none = absurd (true-false (sym h ∙ subscribed-gave a k b j item now ∙ none))
   subscribed-before (Closed b) now a k h none = absurd (true-false (sym h ∙ subscribed-closed a k b now ∙ none))

@@ -22,7 +22,7 @@ use Rattle.qd_sub.specs.Subscriptions.{subscribed, keys_of}
 use Rattle.qd_sub.specs.Watching.{watched}
 use Rattle.qd_sub.specs.Holding.{has_key, fresh}
 use Rattle.qd_sub.specs.Logs.{after, ends_of, after_entry, after_log}
-use Rattle.qd_sub.proofs.SinceLaws.{same_number}
+use Rattle.qd_sub.proofs.SinceLaws.{same_number, and-left}
 use Rattle.qd_sub.proofs.LogLaws.{after_log-push}
 use Rattle.qd_sub.proofs.StepLaws.{keys_of-unsub, keys_of-once}
 use Rattle.qd_sub.proofs.OrderLaws.{once}
@@ -184,10 +184,6 @@ without-first k rest single =
     not-true : (b : Bool) → not b ≡ true → b ≡ false
     not-true true h = sym h
     not-true false h = refl
-
-    and-left : (b c : Bool) → (b && c) ≡ true → b ≡ true
-    and-left true c h = refl
-    and-left false c h = cc
 
 keys-ended : (a : ℕ) (k : Key) (rest : List Key) (now : StreamMoment) → keys_of a now ≡ k ∷ rest → keys_of a now ≡ k ∷ keys_of a (Unsubscribed a k ∷ now)
 keys-ended a k rest now h =

@@ -10,7 +10,7 @@ use Rattle.qd_sub.specs.Acts.{Act, Subscribed, Unsubscribed, Closed, Came, Gave,
 use Rattle.qd_sub.specs.Since.{unbroken}
 use Rattle.qd_sub.specs.Subscriptions.{limit_of, subscribed, keys_of}
 use Rattle.qd_sub.specs.Holding.{newest_pair, held_pairs, has_key}
-use Rattle.qd_sub.proofs.SinceLaws.{grown, by_since-same, same_number}
+use Rattle.qd_sub.proofs.SinceLaws.{grown, by_since-same, same_number, and-left, and-right}
 use Rattle.qd_sub.proofs.OrderLaws.{is_about, by_since-has, once, by_since-once}
 use Rattle.qd_sub.proofs.OrderSteps.{by_since-about}
 use Rattle.qd_sub.proofs.SubscriptionLaws.{subscribed-sub, subscribed-unsub, subscribed-closed, subscribed-came, subscribed-gave}
@@ -85,14 +85,6 @@ keys_of-full b a k now = by_since-same newest_key (subscribed b) (Full a k) now 
 -- two pairs are one
 abbrev pub pair_eq : ℕ × Key → ℕ × Key → Bool
 pair_eq p q = is_pair p.0 p.1 q.0 q.1
-
-and-left : (a b : Bool) → (a && b) ≡ true → a ≡ true
-and-left true b h = refl
-and-left false b h = cc
-
-and-right : (a b : Bool) → (a && b) ≡ true → b ≡ true
-and-right true b h = h
-and-right false b h = cc
 
 number-true : (m n : ℕ) → nat_eq m n ≡ true → m ≡ n
 number-true m n h = grind (arith, nat_tests)

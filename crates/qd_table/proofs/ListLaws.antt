@@ -12,6 +12,7 @@ use Rattle.qd_pend.proofs.ListLaws.{same, unequal, without-absent, has-without, 
 use Rattle.qd_slots.specs.Views.{queued, queued_again}
 use Rattle.qd_table.specs.Tables.{below}
 use Rattle.qd_table.specs.Sound.{EachPairOnce}
+use Rattle.qd_sub.proofs.SinceLaws.{and-left, and-right}
 
 push-other : (list : List ℕ) (slot i : ℕ) → i ≢ slot → has (list ++ slot ∷ []) i ≡ has list i
 push-other list slot i n = has-push list slot i ∙ ap (λ b. has list i || b) (unequal i slot n) ∙ or-false (has list i)
@@ -75,13 +76,6 @@ gives-same f g zero h = refl
 gives-same f g (suc n) h = rw (h n, gives-same f g n h) refl
 
 -- different pairs, by the test and by the fact
-and-left : (a b : Bool) → (a && b) ≡ true → a ≡ true
-and-left true b h = refl
-and-left false b h = cc
-
-and-right : (a b : Bool) → (a && b) ≡ true → b ≡ true
-and-right true b h = h
-and-right false b h = cc
 
 pub once-each : (ps : List (ℕ × Key)) → once pair_eq ps ≡ true → EachPairOnce ps
 unfolding once EachPairOnce

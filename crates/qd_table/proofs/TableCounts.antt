@@ -23,15 +23,9 @@ use Rattle.qd_table.proofs.FreshLaws.{but-alone}
 use Rattle.qd_table.proofs.ListLaws.{once-each}
 use Rattle.qd_table.proofs.StandLaws.{holds_by-at, holds_by-none, known_by-at, known_by-none}
 use Rattle.qd_table.proofs.JudgeLaws.{count-same, count-fresh, named-has}
+use Rattle.qd_sub.proofs.SinceLaws.{and-left, and-right}
 
 -- a key of a list
-and-left : (a b : Bool) → (a && b) ≡ true → a ≡ true
-and-left true b h = refl
-and-left false b h = cc
-
-and-right : (a b : Bool) → (a && b) ≡ true → b ≡ true
-and-right true b h = h
-and-right false b h = cc
 
 length-less : (k : Key) (ks : List Key) → once key_eq ks ≡ true → has_key ks k ≡ true → length ks ≡ suc (length (filter (λ j. not (key_eq k j)) ks))
 unfolding once

@@ -39,6 +39,7 @@ use Rattle.qd_table.proofs.StandOthers.{stands-same, stands-came, stands-gave, s
 use Rattle.qd_table.proofs.StandChains.{stands-watched}
 use Rattle.qd_table.proofs.NewLaws.{stands-new}
 use Rattle.qd_ticker.proofs.StandLaws.{IsLabelled, lists_of, labels-same, at-slot, with-false}
+use Rattle.qd_sub.proofs.SinceLaws.{and-left, and-right}
 
 -- a gift
 list-popped : (b : Bool) (q : SlotList) → (let x : SlotList = if b then with_popped q else q in x.list) ≡ (if b then rest_of q.list else q.list)
@@ -63,14 +64,6 @@ has-some : (rs : List Record) → has_items rs ≡ true → (r : Record) × (las
 has-some [] h = cc
 has-some (r ∷ []) h = (r, refl)
 has-some (p ∷ q ∷ rs) h = has-some (q ∷ rs) h
-
-and-left : (a b : Bool) → (a && b) ≡ true → a ≡ true
-and-left true b h = refl
-and-left false b h = cc
-
-and-right : (a b : Bool) → (a && b) ≡ true → b ≡ true
-and-right true b h = h
-and-right false b h = cc
 
 pending-record : (a : ℕ) (k : Key) (now : TickerMoment) → pending a k now ≡ true → (r : Record) × (last_record k now ≡ Some r)
 unfolding pending last_record

@@ -15,6 +15,7 @@ use Rattle.qd_slots.proofs.NameLaws.{below-or-not}
 use Rattle.qd_ticker.specs.Stripes.{last_at, queue_at, no_queue}
 use Rattle.qd_ticker.specs.Steps.{with_queued, with_dropped, with_popped, with_room}
 use Rattle.qd_ticker.specs.Sound.{IsSound}
+use Rattle.qd_sub.proofs.SinceLaws.{and-left, and-right}
 
 pub queue_at-set : (queues : List SlotList) (a : ℕ) (q : SlotList) → a < length queues → (b : ℕ) → queue_at (slice_set queues a q) b ≡ (if nat_eq a b then q else queue_at queues b)
 queue_at-set queues a q h b =
@@ -92,14 +93,6 @@ sound-added table table' lasts queues queues' a slot limit k s added ls room ql 
   room = λ b i h. room_then b i h (is_cell b i a slot) refl;
 }
   where
-    and-left : (c d : Bool) → (c && d) ≡ true → c ≡ true
-    and-left true d h = refl
-    and-left false d h = cc
-
-    and-right : (c d : Bool) → (c && d) ≡ true → d ≡ true
-    and-right true d h = h
-    and-right false d h = cc
-
     room_then : (b i : ℕ) → is_subscribed (hold_for table' b i) ≡ true → (c : Bool) → is_cell b i a slot ≡ c → i < (queue_at queues' b).slots
     room_then b i h true e =
         let same_agent : b ≡ a = equal b a (and-left (nat_eq b a) (nat_eq i slot) e) in

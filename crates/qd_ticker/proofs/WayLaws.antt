@@ -32,6 +32,7 @@ use Rattle.qd_table.proofs.StandLaws.{subscribed-table, subscribed-absent}
 use Rattle.qd_ticker.proofs.StandLaws.{StandsAt-put, StandsAt-add, StandsAt-drop, StandsAt-closed, StandsAt-roomier}
 use Rattle.qd_ticker.proofs.GiftLaws.{StandsAt-given, IsGift, Gifts}
 use Rattle.qd_ticker.proofs.SoundLaws.{slots-queued}
+use Rattle.qd_sub.proofs.SinceLaws.{and-left}
 
 -- on its way the stripe stands for a moment from which the rest leads to the end
 abbrev pub OnWay : Shown → (TickerMoment → TickerMoment) → TickerMoment → Type 0
@@ -116,10 +117,6 @@ close_acts a m = map (Unsubscribed a) (keys_of a m) ++ Closed a ∷ []
 
 abbrev pub close_lead : ℕ → TickerMoment → TickerMoment
 close_lead a m = after m (close_acts a m)
-
-and-left : (a b : Bool) → (a && b) ≡ true → a ≡ true
-and-left true b h = refl
-and-left false b h = cc
 
 filter-alone : (ks : List Key) (k : Key) → has_key ks k ≡ false → filter (λ j. not (key_eq k j)) ks ≡ ks
 filter-alone [] k h = refl
