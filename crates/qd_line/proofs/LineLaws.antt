@@ -1,13 +1,11 @@
 -- The laws of lines.
-use Rattle.std.proofs.Common.{◌≡◌, ℕ, zero, suc, ◌+◌, ◌-◌, ◌<◌, ◌≤◌, Bool, true, false, cond, List, [], ◌∷◌, ◌++◌, length, take, drop, get_or, reverse, refl, sym, ◌∙◌, ap, subst, arith, append_assoc, length-append, length-take}
-use Rattle.std.specs.Prelude.{◌==◌, ◌&&◌, not, nat_eq, map}
-use Rattle.std.specs.List.{list_all}
-use Rattle.std.proofs.lemmas.Bool.Decides.{nat_tests}
+use Rattle.std.proofs.Common.{◌≡◌, ℕ, ◌<◌, Bool, true, false, cond, List, [], ◌∷◌, ◌++◌, length, take, get_or, reverse, refl, sym, ◌∙◌, ap, subst, arith, append_assoc, length-append, length-take}
+use Rattle.std.specs.Prelude.{◌==◌, not, nat_eq, map}
 use Rattle.std.proofs.lemmas.List.{get_or-take, take-append-le, append-nil, reverse-append}
 use Rattle.std.proofs.Math.Seq.{get_or-append_seam}
 use Rattle.qd_line.specs.Held.{Held}
-use Rattle.qd_line.specs.Lines.{is_one_line, without_cr, lines_behind, lines, last_behind, last_bytes, AreLines, joined, IsCut}
-use Rattle.qd_line.specs.Cutter.{Answers, GivesLine, IsHungry, IsTooLong, Past, HasGiven, StandsFor}
+use Rattle.qd_line.specs.Lines.{is_one_line, without_cr, lines_behind, lines, last_behind, last_bytes, joined, IsCut}
+use Rattle.qd_line.specs.Cutter.{Answers, GivesLine, IsHungry, IsTooLong, Past, StandsFor}
 use Rattle.qd_line.specs.declared.cutter.Next.{Next}
 use Rattle.qd_line.specs.declared.cutter.Next.TheVariants.{Line, None, TooLong}
 use Rattle.qd_line.proofs.Feeds.{and_left, and_right, no_feed_at}

@@ -1,8 +1,8 @@
 -- What a cutter of lines stands for, call by call.
-use Rattle.std.proofs.Common.{◌≡◌, ℕ, ◌+◌, ◌≤◌, true, List, [], ◌∷◌, ◌++◌, length, refl, sym, ◌∙◌, ap, arith, append_assoc}
+use Rattle.std.proofs.Common.{◌≡◌, ℕ, true, List, [], ◌∷◌, ◌++◌, sym, ◌∙◌, ap, arith, append_assoc}
 use Rattle.qd_line.specs.Held.{Held}
 use Rattle.qd_line.specs.Lines.{is_one_line, without_cr, joined, IsCut}
-use Rattle.qd_line.specs.Cutter.{GivesLine, Past, HasGiven, StandsFor, with_answer}
+use Rattle.qd_line.specs.Cutter.{GivesLine, Past, StandsFor, with_answer}
 use Rattle.qd_line.specs.declared.cutter.Next.TheVariants.{Line}
 
 -- one more line off the front of what is left

@@ -1,5 +1,5 @@
 -- Where the bytes of a cutter of lines stand.
-use Rattle.std.specs.Prelude.{ℕ, ◌≡◌, ◌+◌, ◌≤◌, true, take, drop, vec_len}
+use Rattle.std.specs.Prelude.{◌≡◌, ◌+◌, ◌≤◌, true, take, drop, vec_len}
 use Rattle.qd_line.specs.Lines.{is_one_line}
 use Rattle.qd_line.specs.declared.cutter.LineCutter.TheInside.{Inside}
 

@@ -1,4 +1,4 @@
-ghost use Rattle.std.specs.Prelude.{◌≡◌, ◌+◌, ◌-◌, ◌<◌, ◌≤◌, ◌^◌, ◌++◌, ◌∷◌, [], drop, take, length, vec_len, vec_capacity, IfOk, OnOk, OnErr};
+ghost use Rattle.std.specs.Prelude.{◌≡◌, ◌+◌, ◌-◌, ◌<◌, ◌≤◌, ◌^◌, ◌++◌, ◌∷◌, [], drop, take, length, max, vec_len, vec_capacity, IfOk, IsOk, OnOk, OnErr};
 
 use crate::finding::{MOST, feed_at, text_len};
 use std::alloc::{AllocError, Global};
@@ -49,12 +49,15 @@ impl Model for LineCutter {
 }
 
 /// Makes room for `extra` bytes behind those from `start` on, which move to the front where they must. Tells where
-/// they begin then.
+/// they begin then. Memory is asked for only where they and the `extra` do not fit into the room there is, and then for
+/// 8 KiB more than they need.
 fn make_room(bytes: &mut Vec<u8>, start: usize, extra: usize) -> Result<usize, AllocError>
     requires { start ≤ vec_len bytes.old }
     ensures kept { IfOk result (λ at. drop at bytes.new.items ≡ drop start bytes.old.items) }
     ensures within { IfOk result (λ at. at ≤ vec_len bytes.new) }
     ensures room { OnOk result (vec_len bytes.new + extra ≤ vec_capacity bytes.new) }
+    ensures fits { vec_len bytes.old - start + extra ≤ vec_capacity bytes.old → IsOk result × (vec_capacity bytes.new ≡ vec_capacity bytes.old) }
+    ensures bounded { vec_capacity bytes.new ≤ max (vec_capacity bytes.old) (vec_len bytes.old - start + extra + 8192) }
     ensures unchanged { OnErr result (bytes.new.items ≡ bytes.old.items) }
 {
     if extra <= bytes.capacity() - bytes.len() {
@@ -62,7 +65,7 @@ fn make_room(bytes: &mut Vec<u8>, start: usize, extra: usize) -> Result<usize, A
     }
     let left = bytes.len() - start;
     if extra > bytes.capacity() - left {
-        bytes.reserve(extra.saturating_add(2 * MOST))?;
+        bytes.reserve_exact(extra.saturating_add(2 * MOST) - start)?;
     }
     bytes.copy_within(start.., 0);
     bytes.truncate(left);

@@ -1,4 +1,4 @@
-use Rattle.std.proofs.Common.{◌≡◌, ℕ, ◌+◌, ◌-◌, ◌<◌, ◌≤◌, ◌∙◌, sym, ap, arith, min, true, take, length, length-take, length-drop, drop, slice_range}
+use Rattle.std.proofs.Common.{◌≡◌, ◌+◌, ◌-◌, ◌≤◌, arith, true, take, length, length-take, length-drop, drop, slice_range}
 use Rattle.memchr.specs.Find.{Nowhere, Passes, is_byte}
 use Rattle.qd_line.specs.Lines.{is_one_line}
 use Rattle.qd_line.proofs.Feeds.{searched_on, take_window}

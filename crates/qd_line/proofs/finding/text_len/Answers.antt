@@ -1,4 +1,4 @@
-use Rattle.std.proofs.Common.{arith, length}
+use Rattle.std.proofs.Common.{arith}
 use Rattle.qd_line.proofs.Texts.{text_with_cr, text_whole}
 use Rattle.qd_line.proofs.finding.text_len.Goals as goal
 use Rattle.qd_line.proofs.finding.text_len.Goals.{else-len-gt0-via-then-len-gt0+else-line-len-eq13, else-len-gt0-via-else-len-gt0}

@@ -1,8 +1,6 @@
-use Rattle.std.proofs.Common.{◌≡◌, ℕ, ◌+◌, ◌-◌, ◌<◌, ◌≤◌, ◌∙◌, sym, refl, ap, arith, min, true, take, drop, length, length-take, length-drop, List, ◌++◌, ◌∷◌}
+use Rattle.std.proofs.Common.{◌≡◌, ℕ, ◌+◌, ◌-◌, ◌≤◌, ◌∙◌, sym, refl, ap, arith, min, true, take, drop, length, length-take, length-drop, List, ◌++◌, ◌∷◌}
 use Rattle.std.proofs.lemmas.List.{drop-drop, take_all}
 use Rattle.qd_line.specs.Lines.{is_one_line, without_cr}
-use Rattle.qd_line.specs.Held.{Held}
-use Rattle.qd_line.specs.Cutter.{GivesLine, IsHungry, IsTooLong}
 use Rattle.qd_line.proofs.Feeds.{take_window, take_less, left_of}
 use Rattle.qd_line.proofs.Pasts.{stands_line}
 use Rattle.qd_line.proofs.cutter.LineCutter.next_line.Goals as goal
