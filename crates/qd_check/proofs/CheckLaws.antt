@@ -1,5 +1,5 @@
 -- What check prints.
-use Rattle.std.proofs.Common.{ℕ, ◌≡◌, ◌+◌, ◌≤◌, ◌^◌, Bool, true, false, Option, Some, None, List, [], ◌∷◌, ◌++◌, length, refl, sym, ◌∙◌, ap, subst, arith, inl, inr}
+use Rattle.std.proofs.Common.{ℕ, ◌≡◌, ◌+◌, ◌≤◌, ◌^◌, Bool, Option, Some, None, List, [], ◌∷◌, ◌++◌, length, refl, sym, ◌∙◌, ap, subst, arith}
 use Rattle.std.specs.Prelude.{cond, codes, decimal, nat_le, nat_lt, ◌<◌}
 use Rattle.std.proofs.Common.{append_assoc, length-append}
 use Rattle.std.proofs.lemmas.Bool.{le-leb, lt-ltb}
@@ -10,14 +10,11 @@ use Rattle.qd_grammar.specs.declared.item.Mode.TheVariants.{File}
 use Rattle.qd_items.specs.declared.ends.TextEnd.{TextEnd}
 use Rattle.qd_items.specs.declared.ends.TextEnd.TheVariants.{End, CutOff, Bad, LineTooLong, TooMuch, ReadFault, NoMemory}
 use Rattle.qd_items.specs.declared.items.Next.TheVariants as nexts
-use Rattle.qd_items.specs.Ends.{ComesNext, EndsAt, IsEnded}
-use Rattle.qd_items.specs.Judging.{Numbered, Stop, items_of, stop_of}
-use Rattle.qd_items.specs.Judging.Stop.{Open, AtEnd, AtBad}
+use Rattle.qd_items.specs.Ends.{ComesNext, EndsAt}
+use Rattle.qd_items.specs.Judging.{Numbered, Stop, items_of}
 use Rattle.qd_items.specs.Standing.{Kept, Past, IsRead, nothing, opening}
 use Rattle.qd_items.proofs.Counts.{few, none_behind_end}
 use Rattle.qd_items.proofs.StepLaws.{opening_read}
-use Rattle.qd_outside.specs.Buffering.{Prints}
-use Rattle.qd_outside.specs.Writing.{Gained, IsCutShort}
 use Rattle.qd_scheme.specs.declared.defs.RecordDef.{RecordDef}
 use Rattle.qd_check.specs.Printing.{at_end, check_text, count_line, end_count}
 use Rattle.qd_check.specs.Counting.{Counts, PrintsEnd}

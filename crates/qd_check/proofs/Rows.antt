@@ -1,14 +1,14 @@
 -- Worked texts, by evaluation: what check and fmt print of their lines, which stand here with the newest first.
 use Rattle.std.specs.Fmt.{digits}
 use Rattle.std.proofs.Common.{◌^◌, ◌-◌, ◌≡◌, ℕ, ◌∷◌, [], ◌++◌, List, refl}
-use Rattle.std.specs.Prelude.{codes, Ok, Err, Some, None, true, false, Result, map}
+use Rattle.std.specs.Prelude.{codes}
 use Rattle.qd_decimal.specs.Reading.{dec_of, point_at, rest_at, whole_at, digits_end, zeros_end, int_of, count_of}
 use Rattle.qd_decimal.specs.Texts.{dec_text, magnitude_text}
 use Rattle.qd_decimal.specs.declared.fault.DecFault.TheVariants.{TooFine}
-use Rattle.qd_grammar.specs.Body.{key_at, record_line, event_line, sub_line, hist_sub_line, lost_line}
+use Rattle.qd_grammar.specs.Body.{key_at, record_line}
 use Rattle.qd_grammar.specs.Canonical.{canonical, joined}
-use Rattle.qd_grammar.specs.Control.{behind_word, describe_line}
-use Rattle.qd_grammar.specs.Fields.{cell_at, count_at, symbol_at, word_at, record_at, hist_at, flags_at, loss_at}
+use Rattle.qd_grammar.specs.Control.{behind_word}
+use Rattle.qd_grammar.specs.Fields.{cell_at, count_at, symbol_at, word_at, record_at, hist_at}
 use Rattle.qd_grammar.specs.Lines.{item_of}
 use Rattle.qd_grammar.specs.Words.{word_of}
 use Rattle.qd_grammar.specs.declared.fault.Why.TheVariants.{Number}
@@ -17,7 +17,7 @@ use Rattle.qd_items.specs.Judging.{stop_of}
 use Rattle.qd_items.specs.Judging.Stop.{AtBad}
 use Rattle.qd_scheme.specs.Builtin.{builtin_defs}
 use Rattle.qd_scheme.specs.Symbols.{symbol_of}
-use Rattle.qd_check.specs.Printing.{check_text, count_line, fmt_text}
+use Rattle.qd_check.specs.Printing.{check_text, fmt_text}
 
 -- a line that ends by a carriage return and a line feed
 abbrev with_cr : List ℕ → List ℕ

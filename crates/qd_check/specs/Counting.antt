@@ -1,5 +1,5 @@
 -- What the parts of a run do.
-use Rattle.std.specs.Prelude.{ℕ, ◌≡◌, ◌⊎◌, Bool, true, false, Option, Some, None, List, [], ◌++◌, length}
+use Rattle.std.specs.Prelude.{ℕ, ◌≡◌, ◌⊎◌, Bool, true, Option, Some, None, List, ◌++◌, length}
 use Rattle.qd_grammar.specs.declared.item.Mode.TheVariants.{File}
 use Rattle.qd_items.specs.declared.ends.RunEnd.{RunEnd}
 use Rattle.qd_items.specs.declared.ends.RunEnd.TheVariants.{WriteFault}
@@ -7,11 +7,11 @@ use Rattle.qd_items.specs.declared.ends.TextEnd.{TextEnd}
 use Rattle.qd_items.specs.Ends.{EndsAt}
 use Rattle.qd_items.specs.Judging.{items_of}
 use Rattle.qd_items.specs.Runs.{run_end}
-use Rattle.qd_items.specs.Standing.{Past, StandsFor}
+use Rattle.qd_items.specs.Standing.{Past}
 use Rattle.qd_outside.specs.Buffering.{Prints}
 use Rattle.qd_outside.specs.Writing.{IsCutShort, IsWritten}
 use Rattle.qd_scheme.specs.declared.defs.RecordDef.{RecordDef}
-use Rattle.qd_check.specs.Printing.{end_line, fmt_text}
+use Rattle.qd_check.specs.Printing.{fmt_text}
 use Rattle.qd_check.specs.Runs.{Outside, IsPrinted, IsBroken}
 
 -- what stands at the end is printed behind what is held back, or a write failed

@@ -5,7 +5,7 @@ use Rattle.qd_grammar.specs.declared.item.Item.{Item}
 use Rattle.qd_grammar.specs.declared.item.Item.TheVariants as items
 use Rattle.qd_grammar.specs.declared.item.Mode.TheVariants.{File}
 use Rattle.qd_items.specs.declared.ends.TextEnd.{TextEnd}
-use Rattle.qd_items.specs.declared.ends.TextEnd.TheVariants.{End, CutOff, Bad, LineTooLong, TooMuch, ReadFault, NoMemory}
+use Rattle.qd_items.specs.declared.ends.TextEnd.TheVariants.{End}
 use Rattle.qd_items.specs.Judging.{Numbered, Stop, items_of, stop_of}
 use Rattle.qd_items.specs.Judging.Stop.{Open, AtEnd, AtBad}
 use Rattle.qd_scheme.specs.declared.defs.RecordDef.{RecordDef}

@@ -1,6 +1,6 @@
 -- A number's canonical text is read as the number.
-use Rattle.std.proofs.Common.{◌≡◌, ℕ, zero, suc, ◌+◌, ◌-◌, ◌*◌, ◌/◌, ◌%◌, ◌^◌, ◌<◌, ◌≤◌, min, Bool, true, false, cond, List, [], ◌∷◌, ◌++◌, length, take, drop, slice_range, refl, sym, ◌∙◌, ap, subst, arith, length-append, append_assoc, inl, inr}
-use Rattle.std.specs.Prelude.{◌==◌, ◌⊎◌, decimal, nat_lt, nat_le, Option, Some, None, Result, Ok, Err}
+use Rattle.std.proofs.Common.{◌≡◌, ℕ, zero, suc, ◌+◌, ◌-◌, ◌*◌, ◌/◌, ◌%◌, ◌^◌, ◌<◌, ◌≤◌, min, Bool, true, false, cond, List, [], ◌∷◌, ◌++◌, length, take, drop, slice_range, refl, sym, ◌∙◌, ap, arith, length-append, append_assoc}
+use Rattle.std.specs.Prelude.{◌==◌, ◌⊎◌, decimal, Option, Some, None, Ok}
 use Rattle.std.proofs.lemmas.Bool.Decides.{nat_tests}
 use Rattle.std.proofs.lemmas.Fmt.{decimal_by_steps}
 use Rattle.std.proofs.lemmas.Nat.{pow-add}
@@ -11,10 +11,10 @@ use Rattle.std.proofs.Math.Nat.{one-le-pow}
 use lib.IntN.{ℤ, pos, negsuc}
 use Rattle.qd_decimal.specs.Grammar.{is_digit, AreDigits, Parts, sign, behind_point, spelled, AreFraction, AreDecimal, number_of, fraction_digits, scaled, signed}
 use Rattle.qd_decimal.specs.Numbers.{fitting, reach, signed_fit}
-use Rattle.qd_decimal.specs.Reading.{has_minus, start_of, fraction_start, dec_of}
-use Rattle.qd_decimal.specs.Exact.{past, IsFine, HasParts}
+use Rattle.qd_decimal.specs.Reading.{dec_of}
+use Rattle.qd_decimal.specs.Exact.{past, IsFine}
 use Rattle.qd_decimal.specs.Texts.{fraction_text, point_text, magnitude_text, dec_text, distance, is_negative}
-use Rattle.qd_decimal.proofs.Shapes.{decimal_at, accepted, minus_of, start_is, append_none}
+use Rattle.qd_decimal.proofs.Shapes.{accepted, minus_of, start_is}
 use Rattle.qd_decimal.proofs.Values.{fit_ok}
 use Rattle.qd_decimal.proofs.Formed.{Splits}
 use Rattle.qd_decimal.proofs.Exactly.{fine_end, fit_is, dec_fine, read_is}

@@ -1,16 +1,15 @@
 -- Up to the place where a text goes wrong, some number begins with its bytes; and what reading accepts is a number.
-use Rattle.std.proofs.Common.{◌≡◌, ℕ, zero, suc, ◌+◌, ◌-◌, ◌<◌, ◌≤◌, Bool, true, false, cond, nat_eq, List, [], ◌∷◌, ◌++◌, length, get_or, take, drop, refl, sym, ◌∙◌, ap, subst, arith, add-one, length-append, length-drop, length-take, append_assoc, inl, inr}
-use Rattle.std.specs.Prelude.{◌==◌, ◌&&◌, ◌⊎◌, not, nat_lt, Option, Some, None, Result, Ok, Err}
-use Rattle.std.specs.List.{prefix_len, AllByRecursion}
+use Rattle.std.proofs.Common.{◌≡◌, ℕ, zero, suc, ◌+◌, ◌-◌, ◌<◌, ◌≤◌, Bool, true, false, cond, List, [], ◌∷◌, ◌++◌, length, get_or, take, drop, refl, sym, ◌∙◌, ap, arith, length-append, append_assoc, inl, inr}
+use Rattle.std.specs.Prelude.{◌==◌, ◌&&◌, ◌⊎◌, nat_lt, Some, None, Err}
+use Rattle.std.specs.List.{prefix_len}
 use Rattle.std.proofs.lemmas.Bool.Decides.{nat_tests}
 use Rattle.std.proofs.lemmas.List.{drop_more}
 use Rattle.std.proofs.Math.Seq.{take-add}
-use Rattle.qd_decimal.specs.Grammar.{is_digit, AreDigits, Parts, sign, behind_point, spelled, AreFraction, AreDecimal, IsDecimal, Begins, IsWrongAt}
-use Rattle.qd_decimal.specs.declared.fault.DecFault.{DecFault}
+use Rattle.qd_decimal.specs.Grammar.{is_digit, AreDigits, sign, IsDecimal, Begins, IsWrongAt}
 use Rattle.qd_decimal.specs.declared.fault.DecFault.TheVariants.{BadByte}
 use Rattle.qd_decimal.specs.Reading.{digits_end, has_minus, start_of}
-use Rattle.qd_decimal.proofs.Shapes.{decimal_at, not_zero, append_none, without_digit, whole_number, other_byte, with_fraction, bad_fraction}
-use Rattle.qd_decimal.proofs.Places.{Goes, no_digit, no_point, no_fraction, how, never, dead, end_from, end_within, start_within, lt_or_eq, eq_or_not}
+use Rattle.qd_decimal.proofs.Shapes.{decimal_at, not_zero, append_none}
+use Rattle.qd_decimal.proofs.Places.{Goes, no_digit, no_point, no_fraction, how, never, dead, start_within}
 
 pub digits_taken : (n : ℕ) (xs : List ℕ) → n ≤ prefix_len is_digit xs → AreDigits (take n xs)
 digits_taken zero xs h = tt

@@ -1,21 +1,21 @@
 -- A number at the front of a text, up to a TAB or to the end, is what that front is read as.
-use Rattle.std.proofs.Common.{◌≡◌, ℕ, zero, suc, ◌+◌, ◌-◌, ◌*◌, ◌^◌, ◌<◌, ◌≤◌, min, Bool, true, false, cond, List, [], ◌∷◌, ◌++◌, length, get_or, take, drop, slice_range, refl, sym, ◌∙◌, ap, subst, arith, length-append, length-take, length-drop, append_assoc, inl, inr}
-use Rattle.std.specs.Prelude.{◌==◌, ◌||◌, ◌⊎◌, not, nat_lt, Option, Some, None, IfSome, Result, Ok, Err}
+use Rattle.std.proofs.Common.{◌≡◌, ℕ, zero, suc, ◌+◌, ◌-◌, ◌*◌, ◌^◌, ◌<◌, ◌≤◌, Bool, true, false, List, [], ◌∷◌, ◌++◌, length, get_or, take, drop, slice_range, refl, sym, ◌∙◌, ap, subst, arith, length-take, inl, inr}
+use Rattle.std.specs.Prelude.{◌==◌, ◌||◌, ◌⊎◌, not, nat_lt, Option, Some, None, Result}
 use Rattle.std.specs.List.{prefix_len, AllByRecursion}
 use Rattle.std.proofs.lemmas.Bool.Decides.{nat_tests}
 use Rattle.std.proofs.lemmas.List.{drop_more, take-append-drop}
 use Rattle.std.proofs.Math.ListN.{drop_of_length-le}
 use mir.Val.{bool_byte}
-use Rattle.qd_decimal.specs.Grammar.{is_digit, AreDigits, Parts, sign, behind_point, spelled, AreFraction, AreDecimal, IsCount, number_of, fraction_digits, scaled}
+use Rattle.qd_decimal.specs.Grammar.{is_digit, AreDigits, Parts, sign, spelled, number_of, fraction_digits, scaled}
 use Rattle.qd_decimal.specs.Numbers.{fitting, with_digits, times, signed_fit}
 use Rattle.qd_decimal.specs.Reading.{digits_end, has_minus, start_of, dec_of, int_of}
-use Rattle.qd_decimal.specs.Exact.{past, IsFine}
+use Rattle.qd_decimal.specs.Exact.{IsFine}
 use lib.IntN.{ℤ}
 use Rattle.qd_decimal.specs.Fronts.{ends_part, part_len, with_len, front_read}
 use Rattle.qd_decimal.specs.declared.fault.DecFault.{DecFault}
 use Rattle.qd_decimal.specs.declared.fronts.Front.{Front}
 use Rattle.qd_decimal.proofs.Shapes.{append_none}
-use Rattle.qd_decimal.proofs.Alive.{digits_taken, digits_then, sign_text, taken, prefix_of_end, length_taken}
+use Rattle.qd_decimal.proofs.Alive.{digits_taken, sign_text, taken, prefix_of_end, length_taken}
 use Rattle.qd_decimal.proofs.OnePass.{start_byte}
 use Rattle.qd_decimal.proofs.Formed.{take_all}
 use Rattle.qd_decimal.proofs.Values.{fits, sum_digits, magnitude}

@@ -1,15 +1,13 @@
 -- Runs of digits, byte by byte.
-use Rattle.std.proofs.Common.{◌≡◌, ℕ, zero, suc, ◌+◌, ◌-◌, ◌*◌, ◌^◌, ◌<◌, ◌≤◌, min, Bool, true, false, cond, List, [], ◌∷◌, ◌++◌, length, get_or, drop, take, slice_range, refl, sym, ◌∙◌, ap, arith, length-drop, add-one, inl, inr}
-use Rattle.std.specs.Prelude.{◌==◌, ◌⊎◌, Option, Some, nat_lt, Result, Ok, Err}
+use Rattle.std.proofs.Common.{◌≡◌, ℕ, zero, suc, ◌+◌, ◌-◌, ◌*◌, ◌^◌, ◌<◌, ◌≤◌, Bool, true, false, cond, List, [], ◌∷◌, ◌++◌, length, get_or, drop, take, slice_range, refl, sym, ◌∙◌, ap, arith, length-drop}
+use Rattle.std.specs.Prelude.{◌==◌, ◌⊎◌, Option, Some, nat_lt, Ok, Err}
 use Rattle.std.specs.List.{prefix_len}
 use Rattle.std.proofs.lemmas.Bool.Decides.{nat_tests}
-use Rattle.std.proofs.lemmas.List.{drop_more, drop-drop, get_or-drop}
-use Rattle.std.proofs.lemmas.List.Sums.{prefix_len-le-length}
+use Rattle.std.proofs.lemmas.List.{drop-drop, get_or-drop}
 use Rattle.std.proofs.Math.Seq.{take-suc, take-add}
 use Rattle.qd_decimal.specs.Grammar.{is_digit}
 use Rattle.qd_decimal.specs.Numbers.{with_digit, with_digits}
 use Rattle.qd_decimal.specs.Reading.{digits_end, zeros_end, rest_at, ◌>>=◌}
-use Rattle.qd_decimal.specs.declared.fault.DecFault.{DecFault}
 use Rattle.qd_decimal.specs.declared.fault.DecFault.TheVariants.{BadByte, TooFine}
 
 with_digits-append : (v : Option ℕ) (a b : List ℕ) → with_digits v (a ++ b) ≡ with_digits (with_digits v a) b

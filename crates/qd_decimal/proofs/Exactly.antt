@@ -1,6 +1,6 @@
 -- What reading a decimal number gives is what the grammar says.
-use Rattle.std.proofs.Common.{◌≡◌, ℕ, zero, suc, ◌+◌, ◌-◌, ◌*◌, ◌^◌, ◌<◌, ◌≤◌, min, Bool, true, false, cond, List, [], ◌∷◌, ◌++◌, length, take, drop, slice_range, refl, sym, ◌∙◌, ap, subst, arith, length-drop, length-take, inl, inr}
-use Rattle.std.specs.Prelude.{◌==◌, ◌⊎◌, Option, Some, None, Result, Ok, Err}
+use Rattle.std.proofs.Common.{◌≡◌, ℕ, zero, suc, ◌+◌, ◌-◌, ◌*◌, ◌^◌, ◌<◌, ◌≤◌, min, Bool, true, false, List, [], ◌∷◌, ◌++◌, length, take, drop, slice_range, refl, sym, ◌∙◌, ap, subst, arith, length-drop, length-take, inl, inr}
+use Rattle.std.specs.Prelude.{◌==◌, ◌⊎◌, Result, Ok, Err}
 use Rattle.std.specs.List.{prefix_len}
 use Rattle.std.proofs.lemmas.Bool.Decides.{nat_tests}
 use Rattle.std.proofs.lemmas.List.{drop-drop}
@@ -10,15 +10,15 @@ use lib.IntN.{ℤ}
 use Rattle.qd_decimal.specs.Grammar.{Parts, number_of, fraction_digits, scaled, signed}
 use Rattle.qd_decimal.specs.Numbers.{fitting, reach, signed_fit}
 use Rattle.qd_decimal.specs.Reading.{digits_end, zeros_end, has_minus, start_of, expects, non_empty, point_at, fraction_start, kept_end, fine_enough, rest_at, magnitude_at, dec_of, ◌>>=◌}
-use Rattle.qd_decimal.specs.Exact.{past, zeros_past, IsFine, IsTooFineAt, HasParts, ReadsDecimal}
+use Rattle.qd_decimal.specs.Exact.{past, zeros_past, IsFine, IsTooFineAt, ReadsDecimal}
 use Rattle.qd_decimal.specs.declared.fault.DecFault.{DecFault}
-use Rattle.qd_decimal.specs.declared.fault.DecFault.TheVariants.{Empty, BadByte, TooFine, TooLarge}
+use Rattle.qd_decimal.specs.declared.fault.DecFault.TheVariants.{BadByte, TooFine, TooLarge}
 use Rattle.qd_decimal.proofs.Shapes.{decimal_at}
-use Rattle.qd_decimal.proofs.Places.{lt_or_eq, eq_or_not, end_within, start_within}
+use Rattle.qd_decimal.proofs.Places.{lt_or_eq, eq_or_not}
 use Rattle.qd_decimal.proofs.Alive.{wrong}
 use Rattle.qd_decimal.proofs.OnePass.{dec_empty}
 use Rattle.qd_decimal.proofs.Values.{magnitude, fit_ok, fit_large, lt_or_le}
-use Rattle.qd_decimal.proofs.Formed.{Splits, Form, good, bad, form_of}
+use Rattle.qd_decimal.proofs.Formed.{Splits, good, bad, form_of}
 
 take_whole : (xs : List ℕ) (n : ℕ) → length xs ≤ n → take n xs ≡ xs
 take_whole [] zero h = refl

@@ -1,22 +1,17 @@
 -- What reading a decimal number gives, by the grammar.
-use Rattle.std.proofs.Common.{◌≡◌, ℕ, zero, suc, ◌+◌, ◌-◌, ◌*◌, ◌^◌, ◌<◌, ◌≤◌, min, Bool, true, false, cond, List, [], ◌∷◌, ◌++◌, length, get_or, take, drop, slice_range, refl, sym, ◌∙◌, ap, subst, arith, add-one, length-append, length-drop, append_assoc, inl, inr}
-use Rattle.std.specs.Prelude.{◌==◌, ◌⊎◌, not, nat_lt, nat_le, Option, Some, None, Result, Ok, Err}
+use Rattle.std.proofs.Common.{◌≡◌, ℕ, zero, suc, ◌+◌, ◌-◌, ◌*◌, ◌^◌, ◌<◌, ◌≤◌, min, Bool, List, [], ◌∷◌, ◌++◌, length, get_or, take, drop, slice_range, refl, sym, ◌∙◌, ap, subst, arith, length-drop, inl, inr}
+use Rattle.std.specs.Prelude.{◌==◌, ◌⊎◌, Some, None, Ok, Err}
 use Rattle.std.specs.List.{prefix_len}
-use Rattle.std.proofs.lemmas.Bool.Decides.{nat_tests}
-use Rattle.std.proofs.lemmas.List.{drop-drop, drop_more, take-append-drop}
+use Rattle.std.proofs.lemmas.List.{drop_more, take-append-drop}
 use Rattle.std.proofs.lemmas.List.Sums.{prefix_len-le-length}
 use Rattle.std.proofs.Math.ListN.{drop_of_length-le}
-use lib.IntN.{ℤ}
-use Rattle.qd_decimal.specs.Grammar.{is_digit, AreDigits, Parts, sign, behind_point, spelled, AreDecimal, IsDecimal, IsWrongAt, number_of, fraction_digits, scaled, signed}
-use Rattle.qd_decimal.specs.Numbers.{fitting, with_digits, times, reach, signed_fit}
-use Rattle.qd_decimal.specs.Reading.{digits_end, zeros_end, has_minus, start_of, non_empty, fraction_start, kept_end, fine_enough, magnitude_at, dec_of, ◌>>=◌}
-use Rattle.qd_decimal.specs.Exact.{past, zeros_past, IsFine, IsTooFineAt, HasParts, ReadsDecimal}
-use Rattle.qd_decimal.specs.declared.fault.DecFault.{DecFault}
-use Rattle.qd_decimal.specs.declared.fault.DecFault.TheVariants.{Empty, BadByte, TooFine, TooLarge}
+use Rattle.qd_decimal.specs.Grammar.{AreDigits, Parts, sign, fraction_digits}
+use Rattle.qd_decimal.specs.Reading.{digits_end, has_minus, start_of, fraction_start, ◌>>=◌}
+use Rattle.qd_decimal.specs.Exact.{HasParts}
+use Rattle.qd_decimal.specs.declared.fault.DecFault.TheVariants.{BadByte}
 use Rattle.qd_decimal.proofs.Shapes.{decimal_at, append_none, without_digit, whole_number, other_byte, with_fraction, bad_fraction}
 use Rattle.qd_decimal.proofs.Places.{lt_or_eq, eq_or_not, end_from, end_within, start_within}
 use Rattle.qd_decimal.proofs.Alive.{sign_text, taken, digits_taken, prefix_of_end, length_taken, wrong}
-use Rattle.qd_decimal.proofs.Values.{magnitude, fit_ok, fit_large, lt_or_le}
 
 -- what an accepted text has: its parts, by the end of the digits before the point
 pub record Splits (text : List ℕ) (whole : ℕ) (parts : Parts) : Type 0 where

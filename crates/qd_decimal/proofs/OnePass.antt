@@ -1,11 +1,10 @@
 -- What reading in one pass over the digits gives.
 use Rattle.std.proofs.Common.{◌≡◌, ℕ, ◌+◌, ◌-◌, ◌*◌, ◌^◌, ◌<◌, ◌≤◌, min, Bool, true, false, cond, List, length, get_or, slice_range, refl, sym, ◌∙◌, ap, arith, inl, inr}
-use Rattle.std.specs.Prelude.{◌==◌, ◌||◌, ◌⊎◌, nat_lt, Option, Some, Result, Ok, Err}
+use Rattle.std.specs.Prelude.{◌==◌, ◌||◌, ◌⊎◌, nat_lt, Option, Some, Ok, Err}
 use Rattle.std.proofs.lemmas.Bool.Decides.{nat_tests}
 use mir.Val.{bool_byte}
-use lib.IntN.{ℤ}
-use Rattle.qd_decimal.specs.Numbers.{with_digits, times, signed_fit, count_fit}
-use Rattle.qd_decimal.specs.Reading.{digits_end, has_minus, start_of, expects, whole_at, point_at, fraction_start, kept_end, rest_at, magnitude_at, dec_of, int_of, count_of, ◌>>=◌}
+use Rattle.qd_decimal.specs.Numbers.{with_digits, times, signed_fit}
+use Rattle.qd_decimal.specs.Reading.{digits_end, has_minus, start_of, whole_at, point_at, fraction_start, kept_end, rest_at, magnitude_at, dec_of, ◌>>=◌}
 use Rattle.qd_decimal.specs.declared.fault.DecFault.{DecFault}
 use Rattle.qd_decimal.specs.declared.fault.DecFault.TheVariants.{Empty, BadByte}
 use Rattle.qd_decimal.proofs.Places.{start_within, end_from, end_within, eq_or_not}

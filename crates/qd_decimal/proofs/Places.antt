@@ -1,14 +1,13 @@
 -- Where a text that is no number goes wrong.
-use Rattle.std.proofs.Common.{◌≡◌, ℕ, zero, suc, ◌+◌, ◌-◌, ◌<◌, ◌≤◌, Bool, true, false, cond, nat_eq, List, [], ◌∷◌, ◌++◌, length, get_or, take, drop, refl, sym, ◌∙◌, ap, subst, arith, add-one, length-append, length-drop, append_assoc, inl, inr}
-use Rattle.std.specs.Prelude.{◌==◌, ◌&&◌, ◌⊎◌, not, nat_lt, nat_le, Option, Some, None, Result, Ok, Err}
-use Rattle.std.specs.List.{prefix_len, AllByRecursion}
+use Rattle.std.proofs.Common.{◌≡◌, ℕ, zero, suc, ◌+◌, ◌-◌, ◌<◌, ◌≤◌, Bool, true, false, cond, nat_eq, List, [], ◌∷◌, ◌++◌, length, get_or, take, drop, refl, sym, ◌∙◌, ap, subst, arith, length-drop, inl, inr}
+use Rattle.std.specs.Prelude.{◌==◌, ◌&&◌, ◌⊎◌, nat_lt, Result, Ok, Err}
+use Rattle.std.specs.List.{prefix_len}
 use Rattle.std.proofs.lemmas.Bool.Decides.{nat_tests}
 use Rattle.std.proofs.lemmas.List.Sums.{prefix_len-le-length}
-use Rattle.std.proofs.Math.Seq.{take-add}
-use Rattle.qd_decimal.specs.Grammar.{is_digit, AreDigits, Parts, sign, behind_point, spelled, AreFraction, AreDecimal, IsDecimal, Begins, IsWrongAt}
+use Rattle.qd_decimal.specs.Grammar.{is_digit, sign, IsDecimal, Begins}
 use Rattle.qd_decimal.specs.declared.fault.DecFault.{DecFault}
-use Rattle.qd_decimal.specs.declared.fault.DecFault.TheVariants.{Empty, BadByte, TooFine, TooLarge}
-use Rattle.qd_decimal.specs.Reading.{digits_end, has_minus, start_of}
+use Rattle.qd_decimal.specs.declared.fault.DecFault.TheVariants.{BadByte}
+use Rattle.qd_decimal.specs.Reading.{digits_end, start_of}
 use Rattle.qd_decimal.proofs.Shapes.{decimal_at, accepted, without_digit, whole_number, other_byte, with_fraction, bad_fraction, not_zero}
 
 pub lt_or_eq : (a b : ℕ) → a ≤ b → (a < b) ⊎ (a ≡ b)

@@ -1,14 +1,13 @@
 -- The texts of the grammar are those that reading accepts.
-use Rattle.std.proofs.Common.{◌≡◌, ℕ, zero, suc, ◌+◌, ◌-◌, ◌<◌, ◌≤◌, Bool, true, false, cond, nat_eq, List, [], ◌∷◌, ◌++◌, length, get_or, take, drop, refl, sym, ◌∙◌, ap, min, arith, add-one, length-append, length-drop, append_assoc, inl, inr}
-use Rattle.std.specs.Prelude.{◌==◌, ◌&&◌, ◌⊎◌, not, nat_lt, nat_le, Option, Some, None, Result, Ok, Err}
-use Rattle.std.specs.List.{prefix_len, AllByRecursion}
+use Rattle.std.proofs.Common.{◌≡◌, ℕ, suc, ◌+◌, ◌-◌, ◌<◌, ◌≤◌, Bool, true, false, cond, List, [], ◌∷◌, ◌++◌, length, get_or, drop, refl, sym, ◌∙◌, ap, min, arith, length-append}
+use Rattle.std.specs.Prelude.{◌==◌, ◌&&◌, ◌⊎◌, nat_lt, Option, Some, None, Result, Ok, Err}
+use Rattle.std.specs.List.{prefix_len}
 use Rattle.std.proofs.lemmas.Bool.Decides.{nat_tests}
-use Rattle.std.proofs.lemmas.List.Sums.{prefix_len-le-length}
 use Rattle.std.proofs.Math.Seq.{drop-append-add}
 use Rattle.std.proofs.Math.ListN.{drop_of_length-le}
-use Rattle.qd_decimal.specs.Grammar.{is_digit, AreDigits, Parts, sign, behind_point, spelled, AreFraction, AreDecimal, IsDecimal, Begins, IsWrongAt}
+use Rattle.qd_decimal.specs.Grammar.{is_digit, AreDigits, Parts, sign, behind_point, spelled, AreFraction, AreDecimal}
 use Rattle.qd_decimal.specs.declared.fault.DecFault.{DecFault}
-use Rattle.qd_decimal.specs.declared.fault.DecFault.TheVariants.{Empty, BadByte, TooFine, TooLarge}
+use Rattle.qd_decimal.specs.declared.fault.DecFault.TheVariants.{BadByte}
 use Rattle.qd_decimal.specs.Reading.{digits_end, point_at, fraction_start, has_minus, start_of, expects, ◌>>=◌}
 
 -- the end of the digits before the point, where the text is a number

@@ -1,21 +1,20 @@
 -- The canonical text of a number is the only one.
-use Rattle.std.proofs.Common.{◌≡◌, ℕ, zero, suc, ◌+◌, ◌-◌, ◌*◌, ◌/◌, ◌%◌, ◌^◌, ◌<◌, ◌≤◌, min, Bool, true, false, cond, List, [], ◌∷◌, ◌++◌, length, take, drop, refl, sym, ◌∙◌, ap, subst, arith, length-append, length-drop, append_assoc, inl, inr}
-use Rattle.std.specs.Prelude.{◌==◌, ◌&&◌, ◌⊎◌, decimal, replicate, nat_lt, nat_le, Option, Some, None, Result, Ok, Err}
+use Rattle.std.proofs.Common.{◌≡◌, ℕ, zero, suc, ◌+◌, ◌-◌, ◌*◌, ◌/◌, ◌%◌, ◌^◌, ◌<◌, ◌≤◌, Bool, true, false, cond, List, [], ◌∷◌, ◌++◌, length, drop, refl, sym, ◌∙◌, ap, subst, arith, inl, inr}
+use Rattle.std.specs.Prelude.{◌==◌, ◌&&◌, ◌⊎◌, decimal, Option, Some, None, Ok}
 use Rattle.std.specs.List.{prefix_len}
 use Rattle.std.proofs.lemmas.Bool.Decides.{nat_tests}
 use Rattle.std.proofs.lemmas.Fmt.{decimal_by_steps}
 use Rattle.std.proofs.lemmas.Nat.{pow-add}
-use Rattle.std.proofs.lemmas.List.{take_all, append-nil}
 use Rattle.std.proofs.Math.Nat.{one-le-pow, pow-le-pow_right}
-use lib.IntN.{ℤ, pos, negsuc}
-use Rattle.qd_decimal.specs.Grammar.{is_digit, AreDigits, Parts, sign, behind_point, spelled, AreFraction, AreDecimal, number_of, fraction_digits, scaled, signed}
-use Rattle.qd_decimal.specs.Numbers.{fitting, reach, signed_fit}
+use lib.IntN.{ℤ}
+use Rattle.qd_decimal.specs.Grammar.{is_digit, AreDigits, Parts, sign, spelled, AreFraction, number_of, fraction_digits, scaled, signed}
+use Rattle.qd_decimal.specs.Numbers.{reach}
 use Rattle.qd_decimal.specs.Reading.{dec_of}
-use Rattle.qd_decimal.specs.Exact.{past, zeros_past, IsFine, HasParts}
-use Rattle.qd_decimal.specs.Texts.{fraction_text, point_text, magnitude_text, dec_text, distance, is_negative}
+use Rattle.qd_decimal.specs.Exact.{past}
+use Rattle.qd_decimal.specs.Texts.{fraction_text, dec_text, distance, is_negative}
 use Rattle.qd_decimal.specs.Canonical.{HasNoLeadingZero, HasNoTrailingZero, IsShortFraction, IsCanonical}
 use Rattle.qd_decimal.proofs.Values.{lt_or_le}
-use Rattle.qd_decimal.proofs.Again.{IsText, decimal_text, number_append, IsFraction, fraction_is, fraction_kept, kept_fraction, canonical_parts, text_is, are_fraction, more, scaled_sum, whole_again, quotient_fits, reach_small, read_parts}
+use Rattle.qd_decimal.proofs.Again.{IsText, decimal_text, IsFraction, fraction_is, fraction_kept, kept_fraction, canonical_parts, text_is, are_fraction, more, scaled_sum, whole_again, quotient_fits, reach_small, read_parts}
 
 digit_small : (d : ℕ) → is_digit d ≡ true → d - 48 < 10
 digit_small d h = grind (arith, nat_tests)

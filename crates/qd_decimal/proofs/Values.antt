@@ -1,14 +1,10 @@
 -- The number of an accepted text.
-use Rattle.std.proofs.Common.{◌≡◌, ℕ, zero, suc, ◌+◌, ◌-◌, ◌*◌, ◌^◌, ◌<◌, ◌≤◌, min, Bool, true, false, cond, List, [], ◌∷◌, ◌++◌, length, take, drop, slice_range, refl, sym, ◌∙◌, ap, subst, arith, add-one, length-append, length-drop, append_assoc, inl, inr}
-use Rattle.std.specs.Prelude.{◌==◌, ◌⊎◌, not, nat_lt, nat_le, Option, Some, None, Result, Ok, Err}
-use Rattle.std.specs.List.{prefix_len}
+use Rattle.std.proofs.Common.{◌≡◌, ℕ, suc, ◌+◌, ◌-◌, ◌*◌, ◌^◌, ◌<◌, ◌≤◌, Bool, true, false, List, [], ◌∷◌, ◌++◌, length, refl, sym, ◌∙◌, ap, arith, inl, inr}
+use Rattle.std.specs.Prelude.{◌==◌, ◌⊎◌, not, nat_lt, nat_le, Option, Some, None, Ok, Err}
 use Rattle.std.proofs.lemmas.Bool.Decides.{nat_tests}
-use Rattle.std.proofs.lemmas.List.{drop-drop}
 use Rattle.std.proofs.Math.Nat.{one-le-pow}
-use lib.IntN.{ℤ}
-use Rattle.qd_decimal.specs.Grammar.{is_digit, AreDigits, Parts, sign, behind_point, spelled, AreDecimal, number_of, fraction_digits, scaled, signed}
+use Rattle.qd_decimal.specs.Grammar.{number_of, scaled, signed}
 use Rattle.qd_decimal.specs.Numbers.{fitting, with_digit, with_digits, times, reach, signed_fit}
-use Rattle.qd_decimal.specs.declared.fault.DecFault.{DecFault}
 use Rattle.qd_decimal.specs.declared.fault.DecFault.TheVariants.{TooLarge}
 
 pow_pos : (n : ℕ) → 1 ≤ 10 ^ n

@@ -1,20 +1,20 @@
 -- What reading a whole number or a count gives is what the grammar says.
-use Rattle.std.proofs.Common.{◌≡◌, ℕ, zero, suc, ◌+◌, ◌-◌, ◌*◌, ◌^◌, ◌<◌, ◌≤◌, min, Bool, true, false, cond, List, [], ◌∷◌, ◌++◌, length, get_or, take, drop, slice_range, refl, sym, ◌∙◌, ap, subst, arith, append_assoc, length-append, length-drop, inl, inr}
-use Rattle.std.specs.Prelude.{◌==◌, ◌⊎◌, nat_lt, nat_le, Option, Some, None, Result, Ok, Err, IfOk}
+use Rattle.std.proofs.Common.{◌≡◌, ℕ, ◌+◌, ◌-◌, ◌*◌, ◌^◌, ◌<◌, ◌≤◌, Bool, true, false, List, [], ◌∷◌, ◌++◌, length, take, drop, slice_range, refl, sym, ◌∙◌, ap, subst, arith, append_assoc, length-append, length-drop, inl, inr}
+use Rattle.std.specs.Prelude.{◌==◌, ◌⊎◌, nat_le, Option, Some, Result, Ok, Err, IfOk}
 use Rattle.std.specs.List.{prefix_len}
 use Rattle.std.proofs.lemmas.Bool.Decides.{nat_tests}
 use Rattle.std.proofs.lemmas.List.{take-append-drop, take_all}
 use Rattle.std.proofs.Math.Seq.{drop-append_seam}
 use lib.IntN.{ℤ}
-use Rattle.qd_decimal.specs.Grammar.{is_digit, AreDigits, sign, IsCount, IsWhole, Begins, IsWrongAt, number_of, signed}
+use Rattle.qd_decimal.specs.Grammar.{is_digit, AreDigits, sign, IsCount, IsWhole, Begins, IsWrongAt, number_of}
 use Rattle.qd_decimal.specs.Numbers.{fitting, with_digits, reach, signed_fit, count_fit}
-use Rattle.qd_decimal.specs.Reading.{digits_end, has_minus, start_of, expects, non_empty, whole_at, int_of, count_of, ◌>>=◌}
+use Rattle.qd_decimal.specs.Reading.{digits_end, has_minus, start_of, whole_at, int_of, count_of, ◌>>=◌}
 use Rattle.qd_decimal.specs.Exact.{HasDigits, ReadsWhole, ReadsCount}
 use Rattle.qd_decimal.specs.declared.fault.DecFault.{DecFault}
-use Rattle.qd_decimal.specs.declared.fault.DecFault.TheVariants.{Empty, BadByte, TooFine, TooLarge}
-use Rattle.qd_decimal.proofs.Shapes.{all_digits, append_none, minus_of, start_is}
-use Rattle.qd_decimal.proofs.Places.{lt_or_eq, eq_or_not, end_from, end_within, start_within, digits_local, start_local, length_local}
-use Rattle.qd_decimal.proofs.Alive.{sign_text, start_small, taken, digits_taken, digits_then, length_taken, prefix_of_end}
+use Rattle.qd_decimal.specs.declared.fault.DecFault.TheVariants.{Empty, BadByte, TooLarge}
+use Rattle.qd_decimal.proofs.Shapes.{all_digits, append_none, start_is}
+use Rattle.qd_decimal.proofs.Places.{eq_or_not, end_from, end_within, start_within, digits_local, start_local, length_local}
+use Rattle.qd_decimal.proofs.Alive.{sign_text, start_small, taken, digits_taken, digits_then, prefix_of_end}
 use Rattle.qd_decimal.proofs.Formed.{fraction_are}
 use Rattle.qd_decimal.proofs.OnePass.{whole_none, whole_stops, whole_good}
 use Rattle.qd_decimal.proofs.Values.{sum_digits, fits, no_fit, fit_ok, fit_large, lt_or_le}

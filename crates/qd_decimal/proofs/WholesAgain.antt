@@ -1,13 +1,12 @@
 -- The canonical texts of whole numbers and counts are read as the numbers.
-use Rattle.std.proofs.Common.{◌≡◌, ℕ, ◌+◌, ◌-◌, ◌*◌, ◌/◌, ◌%◌, ◌^◌, ◌<◌, ◌≤◌, Bool, true, false, cond, List, [], ◌∷◌, ◌++◌, length, drop, refl, sym, ◌∙◌, ap, subst, arith}
-use Rattle.std.specs.Prelude.{◌==◌, decimal, Option, Some, Result, Ok, Err}
-use Rattle.std.proofs.lemmas.Bool.Decides.{nat_tests}
+use Rattle.std.proofs.Common.{◌≡◌, ℕ, ◌+◌, ◌-◌, ◌*◌, ◌/◌, ◌%◌, ◌^◌, ◌<◌, ◌≤◌, Bool, true, false, List, [], ◌∷◌, ◌++◌, length, drop, ◌∙◌, ap, arith}
+use Rattle.std.specs.Prelude.{◌==◌, decimal, Result, Ok}
 use Rattle.std.proofs.Math.Seq.{drop-append_seam}
 use lib.IntN.{ℤ}
-use Rattle.qd_decimal.specs.Grammar.{AreDigits, sign, IsCount, number_of, signed}
+use Rattle.qd_decimal.specs.Grammar.{sign, IsCount, number_of, signed}
 use Rattle.qd_decimal.specs.Numbers.{fitting, reach, signed_fit, count_fit}
 use Rattle.qd_decimal.specs.Reading.{has_minus, start_of, whole_at, dec_of, int_of, count_of}
-use Rattle.qd_decimal.specs.Texts.{fraction_text, point_text, magnitude_text, dec_text, distance, is_negative}
+use Rattle.qd_decimal.specs.Texts.{magnitude_text, dec_text, distance, is_negative}
 use Rattle.qd_decimal.specs.declared.fault.DecFault.{DecFault}
 use Rattle.qd_decimal.proofs.Shapes.{append_none, minus_of}
 use Rattle.qd_decimal.proofs.Places.{start_within}

@@ -1,5 +1,5 @@
 -- What the first part of a text, up to a TAB or to the end, is read as.
-use Rattle.std.specs.Prelude.{ℕ, ◌==◌, ◌||◌, not, List, length, take, slice_index, Bool, Result, Ok, Err}
+use Rattle.std.specs.Prelude.{ℕ, ◌==◌, ◌||◌, not, List, length, take, slice_index, Bool, Result, Ok}
 use Rattle.std.specs.List.{prefix_len}
 use lib.IntN.{ℤ}
 use Rattle.qd_decimal.specs.Reading.{◌>>=◌}

@@ -1,6 +1,6 @@
 -- What a text of digits is as a number of 64 bits.
 use Rattle.std.specs.Prelude.{ℕ, ◌+◌, ◌-◌, ◌*◌, ◌^◌, nat_lt, if◌then◌else◌, List, [], ◌∷◌, Option, Some, None, Result, Ok, Err, Bool, true, false, nat_le}
-use lib.IntN.{ℤ, pos, neg_ℤ}
+use lib.IntN.{ℤ}
 use Rattle.qd_decimal.specs.Grammar.{signed}
 use Rattle.qd_decimal.specs.declared.fault.DecFault.{DecFault}
 use Rattle.qd_decimal.specs.declared.fault.DecFault.TheVariants.{TooLarge}

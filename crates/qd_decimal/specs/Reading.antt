@@ -1,5 +1,5 @@
 -- What reading a number gives: its value, or the first fault.
-use Rattle.std.specs.Prelude.{ℕ, ◌+◌, ◌-◌, ◌*◌, ◌^◌, ◌==◌, ◌&&◌, ◌||◌, not, min, nat_lt, nat_le, if◌then◌else◌, List, [], ◌∷◌, length, take, drop, slice_index, slice_range, Option, Some, None, Result, Ok, Err, Bool, true, false}
+use Rattle.std.specs.Prelude.{ℕ, ◌+◌, ◌-◌, ◌*◌, ◌^◌, ◌==◌, ◌&&◌, ◌||◌, not, min, nat_lt, if◌then◌else◌, List, ◌∷◌, length, drop, slice_index, slice_range, Option, Some, Result, Ok, Err, Bool, true, false}
 use Rattle.std.specs.List.{prefix_len}
 use lib.IntN.{ℤ}
 use Rattle.qd_decimal.specs.Grammar.{is_digit}

@@ -1,9 +1,9 @@
 -- A reading in steps gives a value exactly where each of its steps does.
-use Rattle.std.proofs.Common.{◌≡◌, ℕ, Bool, true, false, List, [], ◌∷◌, refl, sym, ◌∙◌, ap}
+use Rattle.std.proofs.Common.{◌≡◌, ℕ, Bool, true, false, List, [], ◌∷◌, refl, ◌∙◌, ap}
 use Rattle.std.specs.Prelude.{Option, Some, None, Result, Ok, Err}
 use Rattle.qd_grammar.specs.declared.fault.Fault.{Fault}
 use Rattle.qd_grammar.specs.declared.fault.Why.{Why}
-use Rattle.qd_grammar.specs.Parts.{Part, Reads, a_part, no_part, ◌>>=◌}
+use Rattle.qd_grammar.specs.Parts.{Part, no_part, ◌>>=◌}
 use Rattle.qd_grammar.specs.Fields.{part_says, or_fault, passing}
 
 -- the value of a first step, and what the steps behind it give

@@ -1,10 +1,9 @@
 -- The canonical line of an item spells it wherever any line does.
 use Rattle.std.proofs.Common.{◌≡◌, ℕ, suc, ◌+◌, Bool, true, false, cond, List, [], ◌∷◌, ◌++◌, length, nat_eq, refl, sym, ◌∙◌, ap, subst, arith, inl, inr}
-use Rattle.std.specs.Prelude.{◌==◌, ◌||◌, ◌&&◌, ◌⊎◌, nat_lt, codes, slice_index, Option, Some, None, Result, Ok, Err}
+use Rattle.std.specs.Prelude.{◌==◌, ◌||◌, ◌&&◌, ◌⊎◌, nat_lt, codes, Option, Some, None, Result, Ok}
 use Rattle.std.specs.Cmp.Lexicographic.{pointwise}
 use Rattle.std.proofs.lemmas.Bool.Decides.{nat_tests}
 use Rattle.std.proofs.Math.Bool.{and-false}
-use Rattle.qd_scheme.specs.Schemes.{IsScheme}
 use Rattle.qd_scheme.specs.declared.defs.RecordDef.{RecordDef}
 use Rattle.qd_grammar.specs.declared.fault.Fault.{Fault}
 use Rattle.qd_grammar.specs.declared.state.State.{State}
@@ -20,7 +19,7 @@ use Rattle.qd_grammar.specs.Control.{in_order, protocol_line, control_line, desc
 use Rattle.qd_grammar.specs.Lines.{is_skipped, is_control, is_description, first_line, later_line, judged_parts, item_of, Spells}
 use Rattle.qd_grammar.specs.Canonical.{behind, joined, texts_of, canonical}
 use Rattle.qd_grammar.specs.Laws.{CanonicalSpells, CanonicalDiffers}
-use Rattle.qd_grammar.proofs.Binds.{Stepped, stepped}
+use Rattle.qd_grammar.proofs.Binds.{stepped}
 use Rattle.qd_grammar.proofs.Tabs.{HasNoTab, HaveNoTab, placed, parts_of-joined}
 use Rattle.qd_grammar.proofs.PartsAgain.{IsPlainName, ArePlain}
 use Rattle.qd_grammar.proofs.Plain.{plain_scheme}

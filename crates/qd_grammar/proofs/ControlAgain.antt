@@ -1,16 +1,15 @@
 -- The texts of an item that a control line or a description spells are read as the item.
-use Rattle.std.proofs.Common.{◌≡◌, ℕ, suc, ◌+◌, ◌-◌, ◌^◌, ◌<◌, ◌≤◌, Bool, true, false, cond, List, [], ◌∷◌, ◌++◌, length, map, drop, nat_eq, refl, sym, ◌∙◌, ap, subst, arith}
-use Rattle.std.specs.Prelude.{not, ◌&&◌, decimal, nat_lt, slice_get, codes, Option, Some, None, Result, Ok, Err}
+use Rattle.std.proofs.Common.{◌≡◌, ℕ, ◌+◌, ◌-◌, ◌^◌, ◌<◌, ◌≤◌, Bool, true, false, cond, List, [], ◌∷◌, ◌++◌, length, map, drop, nat_eq, refl, sym, ◌∙◌, ap, subst, arith}
+use Rattle.std.specs.Prelude.{◌&&◌, decimal, nat_lt, slice_get, codes, Some, Result, Ok}
 use Rattle.std.specs.Cmp.Lexicographic.{pointwise}
 use Rattle.std.proofs.lemmas.Bool.{eq-eqb}
 use Rattle.qd_scheme.specs.Finding.{number_of_record}
 use Rattle.qd_scheme.specs.declared.defs.FieldDef.{FieldDef}
 use Rattle.qd_scheme.specs.declared.defs.RecordDef.{RecordDef}
 use Rattle.qd_grammar.specs.declared.fault.Fault.{Fault}
-use Rattle.qd_grammar.specs.declared.fault.Why.TheVariants.{Form, Order, UnknownRecord}
+use Rattle.qd_grammar.specs.declared.fault.Why.TheVariants.{Form, UnknownRecord}
 use Rattle.qd_grammar.specs.declared.state.State.{State}
 use Rattle.qd_grammar.specs.declared.item.Mode.{Mode}
-use Rattle.qd_grammar.specs.declared.item.Message.{Message}
 use Rattle.qd_grammar.specs.declared.item.Message.TheVariants.{TickerData, StreamData, HistoryData, StreamLost, TickerAdd, StreamAdd, HistoryAdd, TickerRemove, StreamRemove, HistoryRemove}
 use Rattle.qd_grammar.specs.declared.item.Collector.{Collector}
 use Rattle.qd_grammar.specs.declared.item.Way.{Way}
@@ -20,13 +19,13 @@ use Rattle.qd_grammar.specs.declared.word.Word.{Word}
 use Rattle.qd_grammar.specs.declared.word.Word.TheVariants as w
 use Rattle.qd_grammar.specs.Parts.{Part, no_part, ◌>>=◌}
 use Rattle.qd_grammar.specs.Words.{word_of, collectors_by_name, ways_by_name}
-use Rattle.qd_grammar.specs.Fields.{count_at, count_told, word_at, word_told, or_fault}
+use Rattle.qd_grammar.specs.Fields.{count_told, word_at, or_fault}
 use Rattle.qd_grammar.specs.Control.{number_at, alone, one_number, two_numbers, in_order, time_line, take_line, move_line, protocol_line, behind_word, may_come, control_line, field_text, description, description_at, same_parts, describe_line}
 use Rattle.qd_grammar.specs.Canonical.{name_at, texts_of, head_text, collector_text, way_text}
-use Rattle.qd_grammar.proofs.Binds.{Stepped, stepped, step, some_of, same_ok}
-use Rattle.qd_grammar.proofs.Tabs.{HasNoTab, HaveNoTab, no_tabs-append, placed}
-use Rattle.qd_grammar.proofs.PartsAgain.{Says, says-count, says-collector, says-way, IsPlainName, ArePlainFields, IsPlain, ArePlain, IsFound, found_record}
-use Rattle.qd_grammar.proofs.LinesAgain.{ReadsPart, count_part, word_part, said, reads, IsAgain, first_part}
+use Rattle.qd_grammar.proofs.Binds.{stepped, step, some_of, same_ok}
+use Rattle.qd_grammar.proofs.Tabs.{HaveNoTab, no_tabs-append, placed}
+use Rattle.qd_grammar.proofs.PartsAgain.{Says, says-count, says-collector, says-way, IsPlainName, ArePlainFields, IsPlain, ArePlain, found_record}
+use Rattle.qd_grammar.proofs.LinesAgain.{count_part, word_part, said, reads, IsAgain, first_part}
 
 -- numbers of control lines
 

@@ -1,23 +1,20 @@
 -- The texts of an item that a line spells are read as the item, form by form.
-use Rattle.std.proofs.Common.{◌≡◌, ℕ, ◌+◌, ◌-◌, ◌^◌, ◌<◌, ◌≤◌, Bool, true, false, cond, List, [], ◌∷◌, ◌++◌, length, map, refl, sym, ◌∙◌, ap, subst, arith}
-use Rattle.std.specs.Prelude.{not, decimal, nat_lt, slice_get, codes, Option, Some, None, Result, Ok, Err}
+use Rattle.std.proofs.Common.{◌≡◌, ℕ, ◌+◌, ◌-◌, ◌^◌, ◌<◌, ◌≤◌, Bool, true, false, List, [], ◌∷◌, ◌++◌, length, refl, sym, ◌∙◌, subst, arith}
+use Rattle.std.specs.Prelude.{decimal, slice_get, Result, Ok}
 use lib.IntN.{ℤ}
 use Rattle.qd_scheme.specs.declared.defs.RecordDef.{RecordDef}
 use Rattle.qd_scheme.specs.declared.defs.FieldKind.{FieldKind}
 use Rattle.qd_scheme.specs.declared.key.Key.{Key}
 use Rattle.qd_grammar.specs.declared.fault.Fault.{Fault}
-use Rattle.qd_grammar.specs.declared.state.State.{State}
 use Rattle.qd_grammar.specs.declared.item.Item.{Item}
-use Rattle.qd_grammar.specs.declared.item.Item.TheVariants.{Protocol, Head, Rec, Ev, Sub, HistSub, Lost, Heartbeat, End, Time, Link, Take, Node, At, Pump, Move}
+use Rattle.qd_grammar.specs.declared.item.Item.TheVariants.{Rec, Ev, Sub, HistSub, Lost}
 use Rattle.qd_grammar.specs.Parts.{Part, Reads, no_part, ◌>>=◌}
-use Rattle.qd_grammar.specs.Words.{collectors_by_name, ways_by_name}
 use Rattle.qd_grammar.specs.Fields.{part_says, cell_of, cell_at, cells_at, count_told, count_at, symbol_told, symbol_at, word_told, word_at, record_told, record_at, flags_told, flags_at, loss_told, loss_at}
 use Rattle.qd_grammar.specs.Body.{kinds_at, key_at, record_line, event_line, sub_line, hist_sub_line, lost_line}
-use Rattle.qd_grammar.specs.Control.{alone, one_number, two_numbers, in_order, time_line, take_line, move_line, protocol_line, number_at}
-use Rattle.qd_grammar.specs.Canonical.{cell_text, cell_texts, name_at, texts_of, collector_text, way_text}
-use Rattle.qd_grammar.proofs.Binds.{Stepped, stepped, step, Said, part_said, says_again, same_ok, none_left}
-use Rattle.qd_grammar.proofs.Tabs.{HasNoTab, HaveNoTab, placed}
-use Rattle.qd_grammar.proofs.PartsAgain.{Says, says-cell, says-count, says-flags, says-loss, says-symbol, says-collector, says-way, IsPlainName, ArePlain, SaysRecord, says-record}
+use Rattle.qd_grammar.specs.Canonical.{cell_text, cell_texts, name_at, texts_of}
+use Rattle.qd_grammar.proofs.Binds.{stepped, step, Said, part_said, says_again, same_ok}
+use Rattle.qd_grammar.proofs.Tabs.{HaveNoTab, placed}
+use Rattle.qd_grammar.proofs.PartsAgain.{Says, says-cell, says-count, says-flags, says-loss, says-symbol, IsPlainName, ArePlain, SaysRecord, says-record}
 
 -- a reader of one part
 pub record ReadsPart {A : Type 0} (reader : Reads A) (says : ℕ → List ℕ → Result A Fault) : Type 0 where

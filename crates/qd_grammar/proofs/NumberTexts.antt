@@ -1,13 +1,13 @@
 -- The canonical texts of numbers: they have no TAB, and are read as what they were written for.
-use Rattle.std.proofs.Common.{◌≡◌, ℕ, zero, suc, ◌+◌, ◌-◌, ◌*◌, ◌/◌, ◌%◌, ◌^◌, ◌<◌, ◌≤◌, Bool, true, false, cond, List, [], ◌∷◌, ◌++◌, length, refl, sym, ◌∙◌, ap, subst, arith}
+use Rattle.std.proofs.Common.{◌≡◌, ℕ, zero, suc, ◌+◌, ◌-◌, ◌*◌, ◌/◌, ◌%◌, ◌^◌, ◌<◌, ◌≤◌, Bool, true, false, cond, List, [], ◌∷◌, ◌++◌, refl, ◌∙◌, subst, arith}
 use Rattle.std.specs.Prelude.{◌==◌, decimal, nat_le, Option, Some, None, Result, Ok, Err}
 use Rattle.std.proofs.lemmas.Bool.Decides.{nat_tests}
 use Rattle.std.proofs.lemmas.Fmt.{decimal_by_steps}
-use lib.IntN.{ℤ, pos, negsuc}
+use lib.IntN.{ℤ}
 use Rattle.qd_decimal.specs.declared.fault.DecFault.{DecFault}
 use Rattle.qd_decimal.specs.declared.fault.DecFault.TheVariants.{TooLarge}
 use Rattle.qd_decimal.specs.Grammar.{sign, signed}
-use Rattle.qd_decimal.specs.Numbers.{reach, signed_fit, count_fit, with_digits}
+use Rattle.qd_decimal.specs.Numbers.{reach, signed_fit, count_fit}
 use Rattle.qd_decimal.specs.Reading.{◌>>=◌, dec_of, int_of, count_of, whole_at, start_of, has_minus, point_at, non_empty, rest_at, fraction_start, kept_end, magnitude_at}
 use Rattle.qd_decimal.specs.Texts.{fraction_text, point_text, magnitude_text, dec_text, distance, is_negative}
 use Rattle.qd_decimal.proofs.Again.{again}

@@ -1,6 +1,6 @@
 -- The canonical text of what a part said says the same, at every place.
-use Rattle.std.proofs.Common.{◌≡◌, ℕ, zero, suc, ◌+◌, ◌-◌, ◌^◌, ◌<◌, ◌≤◌, min, Bool, true, false, cond, List, [], ◌∷◌, ◌++◌, length, nat_eq, map, get_or, refl, sym, ◌∙◌, ap, subst, arith, add-one}
-use Rattle.std.specs.Prelude.{◌==◌, ◌||◌, ◌&&◌, not, decimal, nat_lt, codes, slice_index, slice_get, option_map, bit_and, Option, Some, None, Result, Ok, Err}
+use Rattle.std.proofs.Common.{◌≡◌, ℕ, suc, ◌+◌, ◌-◌, ◌^◌, ◌<◌, ◌≤◌, min, Bool, true, false, cond, List, [], ◌∷◌, ◌++◌, length, nat_eq, refl, sym, ◌∙◌, ap, subst, arith}
+use Rattle.std.specs.Prelude.{◌==◌, ◌||◌, ◌&&◌, not, decimal, nat_lt, slice_index, slice_get, option_map, bit_and, Option, Some, None, Result, Ok, Err}
 use Rattle.std.specs.List.{prefix_len}
 use Rattle.std.specs.Cmp.Lexicographic.{pointwise}
 use Rattle.std.proofs.lemmas.Bool.{eqb-true}
@@ -19,12 +19,12 @@ use Rattle.qd_grammar.specs.declared.item.Collector.{Collector}
 use Rattle.qd_grammar.specs.declared.item.Collector.TheVariants as collectors
 use Rattle.qd_grammar.specs.declared.item.Way.{Way}
 use Rattle.qd_grammar.specs.declared.item.Way.TheVariants as ways
-use Rattle.qd_grammar.specs.Parts.{◌>>=◌, fault}
+use Rattle.qd_grammar.specs.Parts.{◌>>=◌}
 use Rattle.qd_grammar.specs.Words.{collectors_by_name, ways_by_name}
 use Rattle.qd_grammar.specs.Fields.{told_at, number_of_kind, cell_of, count_told, symbol_fault, symbol_told, word_told, passing, or_fault, hist_at, record_told, flags_told, loss_told}
 use Rattle.qd_grammar.specs.Control.{field_text}
 use Rattle.qd_grammar.specs.Canonical.{cell_text, name_at, collector_text, way_text}
-use Rattle.qd_grammar.proofs.Binds.{Stepped, stepped, step, some_of, Passed, passed, passes, same_ok}
+use Rattle.qd_grammar.proofs.Binds.{stepped, step, some_of, passed, passes, same_ok}
 use Rattle.qd_grammar.proofs.Tabs.{HasNoTab}
 use Rattle.qd_grammar.proofs.NumberTexts.{cell_again, no_tab-cell, number_again, no_tab-number}
 

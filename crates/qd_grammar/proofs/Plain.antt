@@ -1,11 +1,11 @@
 -- The names of a scheme can begin a line.
 use Rattle.std.proofs.Common.{◌≡◌, ℕ, suc, ◌+◌, ◌<◌, ◌≤◌, ◌^◌, Bool, true, false, List, [], ◌∷◌, ◌++◌, length, take, refl, arith}
-use Rattle.std.specs.Prelude.{◌==◌, ◌&&◌, nat_le, codes, slice_get, IsTrue, Option, Some}
+use Rattle.std.specs.Prelude.{◌==◌, ◌&&◌, nat_le, codes, slice_get, IsTrue, Some}
 use Rattle.std.specs.List.{list_all}
 use Rattle.std.proofs.lemmas.Bool.Decides.{nat_tests}
 use Rattle.qd_scheme.specs.Names.{is_name, is_letter, is_name_byte}
 use Rattle.qd_scheme.specs.Faults.{has_scale}
-use Rattle.qd_scheme.specs.Schemes.{IsField, IsRecord, IsScheme}
+use Rattle.qd_scheme.specs.Schemes.{IsField, IsScheme}
 use Rattle.qd_scheme.specs.declared.defs.FieldKind.{FieldKind}
 use Rattle.qd_scheme.specs.declared.defs.FieldKind.TheVariants.{Int, Dec}
 use Rattle.qd_scheme.specs.declared.defs.FieldDef.{FieldDef}
@@ -13,7 +13,7 @@ use Rattle.qd_scheme.specs.declared.defs.RecordDef.{RecordDef}
 use Rattle.qd_grammar.specs.Control.{kind_text, field_text}
 use Rattle.qd_grammar.proofs.Tabs.{HasNoTab, no_tab-append}
 use Rattle.qd_grammar.proofs.NumberTexts.{no_tab-decimal}
-use Rattle.qd_grammar.proofs.PartsAgain.{IsPlainName, ArePlainFields, IsPlain, ArePlain}
+use Rattle.qd_grammar.proofs.PartsAgain.{IsPlainName, ArePlainFields, ArePlain}
 
 true_of : {b : Bool} → IsTrue b → b ≡ true
 true_of h = h

@@ -1,15 +1,12 @@
 -- Worked lines, by evaluation.
 use Rattle.std.specs.Fmt.{digits}
 use Rattle.std.proofs.Common.{◌^◌, ◌-◌, ◌≡◌, ℕ, ◌∷◌, [], ◌++◌, List, refl}
-use Rattle.std.specs.Prelude.{codes, Ok, Err, Some, None, true, false, Result, map}
-use lib.IntN.{ℤ, pos, negsuc}
+use Rattle.std.specs.Prelude.{codes, Ok, Err, Some, None, true, false, Result}
+use lib.IntN.{pos, negsuc}
 use Rattle.qd_decimal.specs.Reading.{dec_of, point_at, rest_at, whole_at, digits_end, zeros_end, int_of, count_of}
-use Rattle.qd_decimal.specs.declared.fault.DecFault.{DecFault}
 use Rattle.qd_decimal.specs.declared.fault.DecFault.TheVariants.{Empty, BadByte, TooFine, TooLarge}
 use Rattle.qd_scheme.specs.declared.defs.RecordDef.{RecordDef}
-use Rattle.qd_scheme.specs.declared.defs.FieldDef.{FieldDef}
 use Rattle.qd_scheme.specs.Symbols.{symbol_of}
-use Rattle.qd_scheme.specs.declared.defs.FieldKind.{FieldKind}
 use Rattle.qd_scheme.specs.declared.defs.FieldKind.TheVariants.{Int, Dec}
 use Rattle.qd_grammar.specs.declared.item.Message.{Message}
 use Rattle.qd_grammar.specs.declared.item.Message.TheVariants.{TickerData, StreamData, HistoryData, StreamLost, TickerAdd, StreamAdd, HistoryAdd, TickerRemove, StreamRemove, HistoryRemove}

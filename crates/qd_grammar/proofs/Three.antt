@@ -1,11 +1,8 @@
 -- Exactly one of three.
-use Rattle.std.proofs.Common.{◌≡◌, ℕ, Bool, true, false, List, refl, sym, ◌∙◌, inl, inr, ap}
+use Rattle.std.proofs.Common.{◌≡◌, ℕ, Bool, true, false, refl, ◌∙◌, inl, inr, ap}
 use Rattle.std.specs.Prelude.{◌⊎◌, Result, Ok, Err}
-use Rattle.qd_scheme.specs.declared.defs.RecordDef.{RecordDef}
-use Rattle.qd_grammar.specs.declared.item.Mode.{Mode}
 use Rattle.qd_grammar.specs.declared.item.Item.{Item}
 use Rattle.qd_grammar.specs.declared.fault.Fault.{Fault}
-use Rattle.qd_grammar.specs.declared.state.State.{State}
 use Rattle.qd_grammar.specs.declared.fault.Why.{Why}
 use Rattle.qd_grammar.specs.Lines.{is_skipped, item_of, IsSkipped, Spells, HasFault}
 use Rattle.qd_grammar.specs.Laws.{IsOneOfThree, IsOnlyOne, SpellsOne, HasOneFault}

@@ -1,5 +1,5 @@
 -- What a body line says under each message.
-use Rattle.std.specs.Prelude.{ℕ, ◌-◌, ◌^◌, List, Bool, true, false, [], map, Option, Some, None, Result, Ok, Err, slice_get}
+use Rattle.std.specs.Prelude.{ℕ, ◌-◌, ◌^◌, List, Bool, true, false, [], map, Option, Some, None, Result, Ok, slice_get}
 use Rattle.qd_scheme.specs.declared.defs.RecordDef.{RecordDef}
 use Rattle.qd_scheme.specs.declared.defs.FieldDef.{FieldDef}
 use Rattle.qd_scheme.specs.declared.defs.FieldKind.{FieldKind}

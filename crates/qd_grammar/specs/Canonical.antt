@@ -1,9 +1,8 @@
 -- The canonical line of an item.
-use Rattle.std.specs.Prelude.{ℕ, zero, suc, ◌+◌, ◌/◌, ◌%◌, ◌^◌, ◌-◌, ◌==◌, cond, List, [], ◌∷◌, ◌++◌, length, map, replicate, codes, Bool, true, false, Option, Some, None, slice_get, decimal, reverse, drop}
+use Rattle.std.specs.Prelude.{ℕ, ◌+◌, ◌/◌, ◌%◌, ◌^◌, ◌-◌, ◌==◌, List, [], ◌∷◌, ◌++◌, codes, Option, Some, None, slice_get, decimal}
 use lib.IntN.{ℤ}
 use Rattle.qd_decimal.specs.Texts.{dec_text}
 use Rattle.qd_scheme.specs.declared.defs.RecordDef.{RecordDef}
-use Rattle.qd_scheme.specs.declared.defs.FieldDef.{FieldDef}
 use Rattle.qd_scheme.specs.declared.defs.FieldKind.{FieldKind}
 use Rattle.qd_scheme.specs.declared.defs.FieldKind.TheVariants.{Int, Dec}
 use Rattle.qd_scheme.specs.declared.key.Key.{Key}

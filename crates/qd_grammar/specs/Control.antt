@@ -1,5 +1,5 @@
 -- What a control line and a description say.
-use Rattle.std.specs.Prelude.{ℕ, ◌-◌, ◌+◌, ◌^◌, ◌&&◌, nat_lt, cond, List, [], ◌∷◌, ◌++◌, map, codes, Bool, true, false, Option, Some, None, Result, Ok, Err, slice_get, drop, nat_eq, decimal, length}
+use Rattle.std.specs.Prelude.{ℕ, ◌-◌, ◌+◌, ◌^◌, ◌&&◌, nat_lt, cond, List, [], ◌∷◌, ◌++◌, map, codes, Bool, true, false, Option, Some, None, Result, Ok, slice_get, drop, nat_eq, decimal}
 use Rattle.std.specs.Cmp.Lexicographic.{pointwise}
 use Rattle.qd_scheme.specs.declared.defs.RecordDef.{RecordDef}
 use Rattle.qd_scheme.specs.declared.defs.FieldDef.{FieldDef}
@@ -14,8 +14,8 @@ use Rattle.qd_grammar.specs.declared.word.Word.TheVariants as w
 use Rattle.qd_grammar.specs.declared.item.Item.{Item}
 use Rattle.qd_grammar.specs.declared.item.Item.TheVariants.{Protocol, Head, Describe, Heartbeat, End, Time, Link, Take, Node, At, Pump, Move}
 use Rattle.qd_grammar.specs.declared.fault.Why.TheVariants.{Form, Order, UnknownRecord, SchemeMismatch}
-use Rattle.qd_grammar.specs.Parts.{Part, Reads, a_part, no_part, fault, ◌>>=◌}
-use Rattle.qd_grammar.specs.Words.{word_of, found, is_subscription, is_for_file, is_file, is_up, collectors_by_name, ways_by_name}
+use Rattle.qd_grammar.specs.Parts.{Part, Reads, no_part, fault, ◌>>=◌}
+use Rattle.qd_grammar.specs.Words.{word_of, is_subscription, is_for_file, is_file, is_up, collectors_by_name, ways_by_name}
 use Rattle.qd_grammar.specs.Fields.{count_at, word_at, or_fault}
 
 -- numbers in control lines

@@ -1,19 +1,18 @@
 -- What one part of a line says.
-use Rattle.std.specs.Prelude.{ℕ, ◌+◌, ◌-◌, ◌*◌, ◌^◌, ◌==◌, ◌||◌, not, List, [], ◌∷◌, length, Bool, true, false, Option, Some, None, Result, Ok, Err, bit_and, slice_get}
+use Rattle.std.specs.Prelude.{ℕ, ◌+◌, ◌-◌, ◌*◌, ◌^◌, ◌==◌, ◌||◌, not, List, [], ◌∷◌, Bool, true, false, Option, Some, None, Result, Ok, Err, bit_and, slice_get}
 use lib.IntN.{ℤ}
 use Rattle.qd_decimal.specs.Reading.{dec_of, int_of, count_of}
 use Rattle.qd_decimal.specs.declared.fault.DecFault.{DecFault}
 use Rattle.qd_decimal.specs.declared.fault.DecFault.TheVariants.{Empty, BadByte, TooFine, TooLarge}
 use Rattle.qd_scheme.specs.Symbols.{symbol_of}
 use Rattle.qd_scheme.specs.declared.defs.RecordDef.{RecordDef}
-use Rattle.qd_scheme.specs.declared.defs.FieldDef.{FieldDef}
 use Rattle.qd_scheme.specs.Finding.{number_of_record}
 use Rattle.qd_scheme.specs.declared.defs.FieldKind.{FieldKind}
 use Rattle.qd_scheme.specs.declared.defs.FieldKind.TheVariants.{Int, Dec}
 use Rattle.qd_grammar.specs.declared.fault.Fault.{Fault}
 use Rattle.qd_grammar.specs.declared.fault.Why.{Why}
 use Rattle.qd_grammar.specs.declared.fault.Why.TheVariants.{Form, UnknownRecord, Number, BadSymbol, BadFlags}
-use Rattle.qd_grammar.specs.Parts.{Part, Reads, a_part, fault, ◌>>=◌}
+use Rattle.qd_grammar.specs.Parts.{Reads, a_part, fault, ◌>>=◌}
 use Rattle.qd_grammar.specs.Words.{found}
 
 -- a number's fault is told at its byte, and Empty and TooLarge at the part

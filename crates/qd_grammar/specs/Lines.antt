@@ -1,11 +1,10 @@
 -- What a line is in a mode, a state and under a scheme: it is skipped, it spells an item, or it has a fault.
-use Rattle.std.specs.Prelude.{ℕ, ◌≡◌, ◌+◌, ◌==◌, ◌||◌, ◌&&◌, not, cond, if◌then◌else◌, List, [], ◌∷◌, length, codes, nat_lt, Bool, true, false, Option, Some, None, Result, Ok, Err, slice_index, nat_eq}
+use Rattle.std.specs.Prelude.{ℕ, ◌≡◌, ◌+◌, ◌==◌, ◌||◌, ◌&&◌, not, if◌then◌else◌, List, [], ◌∷◌, length, codes, nat_lt, Bool, true, false, Option, Some, None, Result, Ok, Err, slice_index, nat_eq}
 use Rattle.std.specs.Cmp.Lexicographic.{pointwise}
 use Rattle.qd_scheme.specs.declared.defs.RecordDef.{RecordDef}
 use Rattle.qd_grammar.specs.declared.fault.Fault.{Fault}
 use Rattle.qd_grammar.specs.declared.state.State.{State}
 use Rattle.qd_grammar.specs.declared.item.Mode.{Mode}
-use Rattle.qd_grammar.specs.declared.item.Message.{Message}
 use Rattle.qd_grammar.specs.declared.item.Item.{Item}
 use Rattle.qd_grammar.specs.declared.item.Item.TheVariants.{Protocol, Head, Describe, Rec, Ev, Sub, HistSub, Lost, Heartbeat, End, Time, Link, Take, Node, At, Pump, Move}
 use Rattle.qd_grammar.specs.declared.fault.Why.{Why}

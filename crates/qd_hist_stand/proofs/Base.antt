@@ -31,7 +31,8 @@ use Rattle.qd_hist_feed.specs.Stands as feed
 use Rattle.qd_hist_feed.proofs.Due.{due_is}
 use Rattle.qd_hist_stand.specs.Stripes.{Shown, StandsAt, no_keeps, IsFed, source_of, state_at, feed_at, queue_at, floor_in, floor_at, due_at, terms_in}
 use Rattle.qd_hist_stand.proofs.Floors.{floor_meets}
-use Rattle.qd_hist_stand.proofs.Queues.{IsApart, due_keys-about}
+use Rattle.qd_table.proofs.SlotKeys.{IsApart}
+use Rattle.qd_hist_stand.proofs.Queues.{due_keys-about}
 
 -- different slots have different keys
 pub keys-apart : (s : Shown) (now : HistMoment) → StandsAt s now → IsApart (key_at s.table)

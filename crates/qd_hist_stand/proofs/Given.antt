@@ -32,7 +32,8 @@ use Rattle.qd_hist_feed.proofs.Sweeping.{quiet_stands}
 use Rattle.qd_hist_feed.proofs.Due.{due_is}
 use Rattle.qd_hist_stand.specs.Stripes.{Shown, StandsAt, IsFed, AllOf, no_keeps, state_at, feed_at, queue_at, owed_at, owed_of, floor_in, floor_at, due_at, terms_in}
 use Rattle.qd_hist_stand.specs.Steps.{IsGiven}
-use Rattle.qd_hist_stand.proofs.Queues.{same-slot, has-queued, EachOnce-queued}
+use Rattle.qd_table.proofs.SlotKeys.{same-slot}
+use Rattle.qd_hist_stand.proofs.Queues.{has-queued, EachOnce-queued}
 use Rattle.qd_hist_stand.proofs.Elsewhere.{made-none}
 use Rattle.qd_hist_stand.proofs.Base.{keys-apart, feed-of, floor-is, order-about, terms-same}
 use Rattle.qd_hist_stand.proofs.Sums.{sum-agree, sum-with}

@@ -17,7 +17,7 @@ use Rattle.qd_table.proofs.ListLaws.{queued-own, queued-other, queued-once}
 use Rattle.qd_hist_rules.specs.Moments.{HistAct, HistMoment, fills}
 use Rattle.qd_hist_rules.specs.Standing.{is_due, due_keys}
 use Rattle.qd_hist_stand.specs.Stripes.{Shown, StandsAt, queue_at, due_at, terms_in}
-use Rattle.qd_hist_stand.proofs.Queues.{IsApart, same-slot}
+use Rattle.qd_table.proofs.SlotKeys.{IsApart, same-slot}
 use Rattle.qd_hist_stand.proofs.Base.{order-about}
 use Rattle.qd_hist_stand.proofs.Sums.{sum-agree, sum-push, sum-with, sum-without}
 

@@ -31,7 +31,7 @@ use Rattle.qd_hist_feed.specs.Feeding.{Feeding, nothing}
 use Rattle.qd_hist_feed.proofs.Sweeping.{quiet_stands}
 use Rattle.qd_hist_stand.specs.Stripes.{Shown, StandsAt, IsFed, AllOf, source_of, state_at, number_at, feed_at, owed_at, terms_in, size_of, no_keeps}
 use Rattle.qd_hist_stand.specs.Steps.{makes_commit, IsPut}
-use Rattle.qd_hist_stand.proofs.Queues.{same-slot}
+use Rattle.qd_table.proofs.SlotKeys.{same-slot}
 use Rattle.qd_hist_stand.proofs.Elsewhere.{last-stays, last-elsewhere, source-elsewhere, quiet-elsewhere}
 use Rattle.qd_hist_stand.proofs.Base.{keys-apart, state-of, unlimited, terms-same}
 use Rattle.qd_hist_stand.proofs.PutCommits.{count_unwanted, made_unwanted, number_then}

@@ -1,10 +1,10 @@
 -- Lists of slots and the keys of their slots; and the queue of an agent's due slots after an act about the key of one slot.
-use Rattle.std.proofs.Common.{◌≡◌, ℕ, Bool, true, false, ◌&&◌, ◌||◌, not, if◌then◌else◌, nat_eq, Option, Some, List, [], ◌∷◌, ◌++◌, refl, ap, sym, ◌∙◌}
+use Rattle.std.proofs.Common.{◌≡◌, ℕ, Bool, true, false, ◌&&◌, ◌||◌, not, if◌then◌else◌, nat_eq, Some, List, [], ◌∷◌, ◌++◌, refl, ap, sym, ◌∙◌}
 use Rattle.std.proofs.lemmas.List.{append-nil}
 use Rattle.std.specs.List.{filter}
 use Rattle.qd_scheme.specs.declared.key.Key.{Key}
 use Rattle.qd_scheme.specs.Keys.{key_eq}
-use Rattle.qd_scheme.proofs.KeyLaws.{key_eq-same, key_eq-true, key_eq-comm}
+use Rattle.qd_scheme.proofs.KeyLaws.{key_eq-true, key_eq-comm}
 use Rattle.qd_pend.specs.Slots.{has, without, EachOnce}
 use Rattle.qd_pend.proofs.ListLaws.{same, equal, has-push, has-without, has-without_same, without-absent, EachOnce-without, EachOnce-push}
 use Rattle.qd_gate.specs.declared.machine.Terms.{Terms}
@@ -17,26 +17,6 @@ use Rattle.qd_hist_rules.specs.Moments.{HistAct, HistMoment, fills}
 use Rattle.qd_hist_rules.specs.Standing.{is_due, due_keys}
 use Rattle.qd_hist_rules.proofs.DueKeys.{due_about, due_keys-has}
 use Rattle.qd_hist_rules.proofs.DueOrder.{due_keys-step}
-
--- different slots have different keys
-abbrev pub IsApart : (ℕ → Option Key) → Type 0
-IsApart name = (i j : ℕ) (k : Key) → name i ≡ Some k → name j ≡ Some k → i ≡ j
-
-pub some-same : (j k : Key) → (let m : Option Key = Some j in let n : Option Key = Some k in m ≡ n) → j ≡ k
-some-same j k h = cc
-
--- a slot is k's just where its key is k
-pub same-slot : (name : ℕ → Option Key) → IsApart name → (slot : ℕ) (k : Key) → name slot ≡ Some k → (s : ℕ) (j : Key) → name s ≡ Some j → nat_eq slot s ≡ key_eq k j
-same-slot name apart slot k here s j there =
-    let go : (b c : Bool) → nat_eq slot s ≡ b → key_eq k j ≡ c → b ≡ c =
-    elim [
-      | true ↦ λ c e f. sym (key_eq-same k) ∙ ap (key_eq k) (some-same k j (sym here ∙ ap name (equal slot s e) ∙ there)) ∙ f
-      | false ↦ elim [
-        | true ↦ λ e f. sym e ∙ ap (nat_eq slot) (sym (apart slot s k here (there ∙ ap (λ x. (let o : Option Key = Some x in o)) (sym (key_eq-true k j f))))) ∙ same slot
-        | false ↦ λ e f. refl
-      ]
-    ] in
-    go (nat_eq slot s) (key_eq k j) refl refl
 
 -- which slots a list has, once this one stays or comes last, or is not in it
 pub has-queued : (list : List ℕ) (slot : ℕ) (waits : Bool) (s : ℕ) → has (queued list slot waits) s ≡ (if nat_eq s slot then waits else has list s)

@@ -1,5 +1,5 @@
 -- What an item that is given leaves.
-use Rattle.std.proofs.Common.{◌≡◌, ℕ, suc, ◌+◌, ◌-◌, ◌<◌, ◌≤◌, ◌^◌, Bool, true, false, Option, Some, None, is_some, List, [], ◌∷◌, length, slice_set, refl, ap, sym, ◌∙◌, arith, subst}
+use Rattle.std.proofs.Common.{◌≡◌, ℕ, ◌+◌, ◌-◌, ◌<◌, ◌≤◌, ◌^◌, true, Option, Some, None, is_some, List, [], ◌∷◌, length, slice_set, refl, ap, sym, ◌∙◌, arith, subst}
 use Rattle.qd_scheme.specs.declared.key.Key.{Key}
 use Rattle.qd_entries.specs.Entries.{AllBelow}
 use Rattle.qd_flags.specs.declared.commits.Floor.{Floor}
@@ -12,7 +12,7 @@ use Rattle.qd_hist_rules.specs.declared.floor.AgentFloor.{AgentFloor}
 use Rattle.qd_hist_rules.specs.declared.item.HistItem.{HistItem}
 use Rattle.qd_hist_feed.specs.declared.feed.Stage.{Stage}
 use Rattle.qd_hist_feed.specs.declared.feed.Stage.TheVariants.{Waiting, Sweeping, Ended}
-use Rattle.qd_hist_feed.specs.Feeding.{Feeding, next_item, after_next, left_by_next}
+use Rattle.qd_hist_feed.specs.Feeding.{next_item, after_next, left_by_next}
 use Rattle.qd_hist_stand.specs.Stripes.{Shown, Side, Track, side_at, floor_in}
 use Rattle.qd_hist_stand.specs.Steps.{KeepsNumbers, after_gift, IsGiven}
 use Rattle.qd_history.specs.Tracks.{track_at}

@@ -1,10 +1,9 @@
 -- Room for what comes to be owed, and sums over an agent's feeds.
-use Rattle.std.proofs.Common.{◌≡◌, ◌≢◌, ◌⊎◌, inl, inr, ℕ, zero, suc, ◌+◌, ◌-◌, ◌<◌, ◌≤◌, Bool, true, false, ◌&&◌, min, nat_eq, nat_lt, nat_le, Option, Some, None, List, [], ◌∷◌, ◌++◌, length, length-append, slice_set, slice_index_or, get_or-set_other, get_or-set_same, refl, ap, sym, ◌∙◌, arith, subst}
-use Rattle.std.specs.Prelude.{if◌then◌else◌, is_some}
+use Rattle.std.proofs.Common.{◌≡◌, ◌≢◌, ◌⊎◌, inl, inr, ℕ, zero, suc, ◌+◌, ◌-◌, ◌<◌, ◌≤◌, Bool, true, false, ◌&&◌, nat_le, Option, List, [], ◌∷◌, ◌++◌, length, length-append, slice_set, slice_index_or, refl, ap, sym, ◌∙◌, arith, subst}
+use Rattle.std.specs.Prelude.{if◌then◌else◌}
 use Rattle.std.specs.List.{sum_by}
 use Rattle.std.proofs.lemmas.List.Sums.{sum_by-set, sum_by-cons}
 use Rattle.qd_scheme.specs.declared.key.Event.{Event}
-use Rattle.qd_hist_rules.specs.declared.item.HistItem.{HistItem}
 use Rattle.qd_hist_feed.specs.declared.feed.Stage.{Stage}
 use Rattle.qd_hist_feed.specs.declared.feed.Stage.TheVariants.{Waiting, Sweeping, Ended}
 use Rattle.qd_hist_feed.specs.Feeding.{Feeding, Spared, is_waiting, is_swept, number_for, has_above, item_of, owed_item, owed_items, with_commit}
@@ -12,8 +11,7 @@ use Rattle.qd_hist_feed.proofs.InOrder.{none_waiting}
 use Rattle.std.proofs.lemmas.List.{append-nil}
 use Rattle.qd_pend.specs.Slots.{has, without}
 use Rattle.qd_slots.specs.Views.{queued_again}
-use Rattle.qd_hist_stand.specs.Stripes.{no_feed}
-use Rattle.qd_history.specs.Sides.{HasRoom, owed_count, IsSummed}
+use Rattle.qd_history.specs.Sides.{HasRoom, owed_count}
 
 -- less room is there where more is
 pub room-less : (hcap : ℕ) (f : Spared) (n m : ℕ) → HasRoom hcap f n → m ≤ n → HasRoom hcap f m

@@ -1,19 +1,19 @@
 -- What an event that is put leaves.
-use Rattle.std.proofs.Common.{◌≡◌, ◌⊎◌, inl, inr, ℕ, suc, ◌+◌, ◌<◌, ◌≤◌, ◌^◌, Bool, true, false, ◌&&◌, if◌then◌else◌, nat_eq, Option, Some, None, List, [], ◌∷◌, length, refl, ap, sym, ◌∙◌, arith, subst, add-one}
+use Rattle.std.proofs.Common.{◌≡◌, ◌⊎◌, inl, inr, ℕ, ◌+◌, ◌<◌, ◌≤◌, ◌^◌, Bool, true, false, ◌&&◌, if◌then◌else◌, nat_eq, Option, Some, None, List, [], ◌∷◌, length, refl, ap, sym, ◌∙◌, arith, subst, add-one}
 use Rattle.qd_scheme.specs.declared.key.Event.{Event}
 use Rattle.qd_flags.specs.declared.commits.Ingest.{Ingest}
 use Rattle.qd_flags.specs.declared.commits.Ingest.TheVariants.{Ignored, Held, Update, Snapshot}
 use Rattle.qd_flags.specs.Following.{answer_to}
-use Rattle.qd_pend.proofs.ListLaws.{same, equal}
+use Rattle.qd_pend.proofs.ListLaws.{equal}
 use Rattle.qd_slots.specs.Holds.{is_subscribed}
 use Rattle.qd_table.specs.Tables.{key_at, hold_for, limit_for}
 use Rattle.qd_hist_key.specs.Keeping as keeping
 use Rattle.qd_hist_rules.specs.declared.floor.AgentFloor.{AgentFloor}
 use Rattle.qd_hist_feed.specs.Feeding.{Spared}
-use Rattle.qd_hist_stand.specs.Stripes.{Shown, Side, Track, state_at, number_at, feed_at, queue_at, owed_at, floor_in, size_of}
-use Rattle.qd_hist_stand.specs.Steps.{Part, part_at, part_after, makes_commit, IsParted, IsPut, IsPutAt}
+use Rattle.qd_hist_stand.specs.Stripes.{Shown, Side, Track, state_at, number_at, feed_at, queue_at, owed_at, floor_in}
+use Rattle.qd_hist_stand.specs.Steps.{Part, part_at, part_after, makes_commit, IsParted, IsPut}
 use Rattle.qd_history.specs.Tracks.{track_at, track_size, wanted_slot}
-use Rattle.qd_history.specs.Sides.{sided_at, spared_at, part_in, IsSided, AllSided, CanFollow, HasRoom}
+use Rattle.qd_history.specs.Sides.{sided_at, spared_at, AllSided, CanFollow, HasRoom}
 use Rattle.qd_history.specs.Rooms.{count_at, HasPlace, CanPut}
 use Rattle.qd_history.specs.Sound.{IsPlaced, IsWithin, IsSound}
 use Rattle.qd_history.proofs.OwedLaws.{room-less}

@@ -1,19 +1,16 @@
 -- Room for the events of a Put, before each of them.
-use Rattle.std.proofs.Common.{◌≡◌, ◌⊎◌, inl, inr, ℕ, zero, suc, ◌+◌, ◌<◌, ◌≤◌, ◌^◌, Bool, true, false, ◌&&◌, if◌then◌else◌, nat_eq, min, Option, Some, None, List, [], ◌∷◌, ◌++◌, length, drop, get_or, slice_set, slice_index_or, get_or-set_other, get_or-set_same, refl, ap, sym, ◌∙◌, arith, subst, add-one}
+use Rattle.std.proofs.Common.{◌≡◌, ◌⊎◌, inl, inr, ℕ, suc, ◌+◌, ◌<◌, ◌≤◌, ◌^◌, Bool, true, false, ◌&&◌, if◌then◌else◌, nat_eq, min, Option, Some, None, List, [], ◌∷◌, ◌++◌, length, drop, get_or, refl, ap, sym, ◌∙◌, arith, subst, add-one}
 use Rattle.std.proofs.Math.Seq.{drop-cons}
-use Rattle.std.proofs.Math.ListN.{drop_of_length-le}
 use Rattle.qd_scheme.specs.declared.key.Key.{Key}
 use Rattle.qd_scheme.specs.declared.key.Event.{Event}
 use Rattle.qd_pend.proofs.ListLaws.{same, equal, unequal}
-use Rattle.qd_slots.specs.Holds.{is_subscribed}
-use Rattle.qd_table.specs.Tables.{Table, key_at, slot_for, hold_for, is_wanted_slot, is_wanted_key}
-use Rattle.qd_table.proofs.TableLaws.{some-same, some-none, true-false, apart-numbers}
-use Rattle.qd_hist_feed.specs.Feeding.{Spared, is_waiting}
-use Rattle.qd_hist_stand.specs.Stripes.{Shown, Track, Side, no_track}
-use Rattle.qd_hist_stand.specs.Steps.{Part}
-use Rattle.qd_history.specs.Tracks.{Tracks, IsSameTrack, track_at, wanted_in, wanted_slot}
-use Rattle.qd_history.specs.Sides.{sided_at, spared_at, owed_count, HasRoom, IsReserved, IsSameSide, AllSided}
-use Rattle.qd_history.specs.Rooms.{is_slot, count_at, wanted_count, tally_at, HasPlace, HasPlaces, CanPut, KeepsTracks, KeepsSides, KeepsOthers, KeepsOtherFeeds}
+use Rattle.qd_table.specs.Tables.{Table, slot_for, is_wanted_slot, is_wanted_key}
+use Rattle.qd_table.proofs.TableLaws.{some-same, some-none, apart-numbers}
+use Rattle.qd_hist_feed.specs.Feeding.{Spared}
+use Rattle.qd_hist_stand.specs.Stripes.{Shown, Track, Side}
+use Rattle.qd_history.specs.Tracks.{track_at, wanted_in, wanted_slot}
+use Rattle.qd_history.specs.Sides.{sided_at, spared_at, HasRoom, IsReserved}
+use Rattle.qd_history.specs.Rooms.{is_slot, count_at, wanted_count, HasPlace, HasPlaces, CanPut}
 use Rattle.qd_history.proofs.OwedLaws.{room-less}
 
 -- the rest of a list from a place on

@@ -1,13 +1,13 @@
 -- Where only the room has changed.
-use Rattle.std.proofs.Common.{◌≡◌, ℕ, ◌+◌, ◌<◌, ◌≤◌, List, length, refl, ap, sym, ◌∙◌, subst, arith}
-use Rattle.qd_table.specs.Tables.{Table, slots_in}
+use Rattle.std.proofs.Common.{◌≡◌, ℕ, ◌+◌, ◌<◌, ◌≤◌, List, length, refl, ap, sym, ◌∙◌, arith}
+use Rattle.qd_table.specs.Tables.{Table}
 use Rattle.qd_table.specs.Steps.{IsSame}
-use Rattle.qd_hist_stand.specs.Stripes.{Shown, Track, Side, state_at, number_at, side_at}
-use Rattle.qd_hist_stand.specs.Steps.{KeepsNumbers, IsRoomier}
+use Rattle.qd_hist_stand.specs.Stripes.{Shown, Track, Side}
+use Rattle.qd_hist_stand.specs.Steps.{IsRoomier}
 use Rattle.qd_history.specs.Tracks.{Tracks, IsSameTrack, track_at}
 use Rattle.qd_history.specs.Sides.{sided_at, IsSameSide}
-use Rattle.qd_history.specs.Rooms.{KeepsTracks, KeepsSides, KeepsOthers, KeepsOtherFeeds}
-use Rattle.qd_history.specs.Sound.{IsPlaced, IsWithin, IsSound}
+use Rattle.qd_history.specs.Rooms.{KeepsTracks, KeepsSides, KeepsOtherFeeds}
+use Rattle.qd_history.specs.Sound.{IsSound}
 use Rattle.qd_history.proofs.SoundLaws.{placed-as}
 use Rattle.qd_slots.specs.Holds.{is_subscribed}
 

@@ -1,20 +1,19 @@
 -- What is true of the fields of a stripe stays true.
-use Rattle.std.proofs.Common.{◌≡◌, ◌≢◌, ◌⊎◌, inl, inr, ℕ, zero, suc, ◌+◌, ◌<◌, ◌≤◌, ◌^◌, Bool, true, false, ◌&&◌, not, if◌then◌else◌, nat_eq, Option, Some, None, List, [], ◌∷◌, length, max, replicate, slice_set, slice_index_or, get_or-set_other, get_or-set_same, refl, ap, sym, ◌∙◌, arith, subst}
+use Rattle.std.proofs.Common.{◌≡◌, ◌≢◌, ◌⊎◌, ℕ, zero, suc, ◌+◌, ◌<◌, ◌≤◌, ◌^◌, Bool, true, false, ◌&&◌, not, if◌then◌else◌, nat_eq, Option, Some, None, List, [], ◌∷◌, length, replicate, slice_set, get_or-set_other, get_or-set_same, refl, ap, sym, ◌∙◌, arith, subst}
 use Rattle.std.proofs.lemmas.List.{length-set}
 use Rattle.qd_scheme.specs.declared.key.Key.{Key}
-use Rattle.qd_pend.specs.Slots.{SlotList}
-use Rattle.qd_pend.proofs.ListLaws.{same, equal}
+use Rattle.qd_pend.proofs.ListLaws.{equal}
 use Rattle.qd_slots.specs.declared.holds.Hold.TheVariants.{Free, Subscribed}
 use Rattle.qd_slots.specs.Holds.{is_subscribed, after_end}
 use Rattle.qd_table.specs.Tables.{Table, key_at, slots_in, hold_for, is_used, no_table}
-use Rattle.qd_table.specs.Steps.{IsSame, IsSubscribed, IsEnded, IsTold, TellsAll, is_cell}
+use Rattle.qd_table.specs.Steps.{IsSubscribed, IsEnded, TellsAll, is_cell}
 use Rattle.qd_table.proofs.TableLaws.{key_at-within, some-none, true-false, apart-numbers}
 use Rattle.qd_hist_feed.specs.Feeding.{Spared}
 use Rattle.qd_hist_stand.specs.Stripes.{Shown, Side, no_side, side_at, feed_at, queue_at, owed_at}
 use Rattle.qd_hist_stand.specs.Steps.{Part, IsPartOf}
-use Rattle.qd_history.specs.Sides.{sided_at, spared_at, part_in, IsSided, IsSameSide}
+use Rattle.qd_history.specs.Sides.{sided_at, spared_at, IsSided}
 use Rattle.qd_history.specs.Sound.{IsPlaced, IsWithin, IsSound, HasSlots}
-use Rattle.qd_sub.proofs.SinceLaws.{and-left, and-right}
+use Rattle.qd_sub.proofs.SinceLaws.{and-right}
 
 -- the sides with another one at a place
 pub side-set : (sides : List Side) (a : ℕ) (x : Side) → a < length sides → (b : ℕ) → sided_at (slice_set sides a x) b ≡ (if nat_eq b a then x else sided_at sides b)

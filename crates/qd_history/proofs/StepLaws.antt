@@ -1,31 +1,26 @@
 -- What a step leaves stands for the moment after its acts, and its entry is lawful.
-use Rattle.std.proofs.Common.{◌≡◌, ◌⊎◌, inl, inr, ℕ, zero, suc, ◌<◌, ◌≤◌, Bool, true, false, ◌&&◌, not, if◌then◌else◌, nat_eq, nat_lt, Option, Some, None, is_some, List, [], ◌∷◌, ◌++◌, length, map, take, refl, ap, sym, ◌∙◌, subst, arith}
-use Rattle.std.specs.Prelude.{MatchBool, MatchOption, ◌==◌}
-use Rattle.std.specs.List.{filter, filter_map, cons_option}
+use Rattle.std.proofs.Common.{◌≡◌, ◌⊎◌, inl, inr, ℕ, zero, suc, ◌<◌, ◌≤◌, Bool, true, false, ◌&&◌, not, if◌then◌else◌, nat_lt, Option, Some, None, is_some, List, [], ◌∷◌, ◌++◌, length, map, take, refl, ap, sym, ◌∙◌, subst, arith}
+use Rattle.std.specs.Prelude.{MatchBool, ◌==◌}
+use Rattle.std.specs.List.{filter_map, cons_option}
 use Rattle.qd_scheme.specs.declared.key.Key.{Key}
 use Rattle.qd_scheme.specs.declared.key.Event.{Event}
-use Rattle.qd_scheme.specs.Keys.{key_eq}
-use Rattle.qd_scheme.proofs.KeyLaws.{key_eq-same}
 use Rattle.std.proofs.lemmas.Bool.Decides.{nat_tests}
-use Rattle.std.proofs.lemmas.Bool.{not-true}
 use Rattle.qd_flags.specs.declared.commits.Floor.{Floor}
 use Rattle.qd_buffer.specs.Filled.{Filled, with_items}
 use Rattle.qd_gate.specs.declared.machine.Terms.{Terms}
 use Rattle.qd_gate.specs.Logs.{entry}
 use Rattle.qd_gate.proofs.Laws.{each_follows_push}
 use Rattle.qd_pend.specs.Slots.{has, first_in}
-use Rattle.qd_pend.proofs.ListLaws.{same, has-here}
+use Rattle.qd_pend.proofs.ListLaws.{has-here}
 use Rattle.qd_sub.specs.declared.sub.Sub.{Sub}
 use Rattle.qd_sub.specs.declared.sub.Want.{Want}
 use Rattle.qd_sub.specs.declared.op.Op.TheVariants.{Add, Remove, Close, Put, Take, Watch}
-use Rattle.qd_sub.specs.Acts.{Subscribed, Unsubscribed, Closed, Came, Gave, Told, Full}
+use Rattle.qd_sub.specs.Acts.{Subscribed, Unsubscribed, Closed, Came, Gave, Full}
 use Rattle.qd_sub.specs.Subscriptions.{subscribed, keys_of}
-use Rattle.qd_sub.specs.Holding.{has_key}
 use Rattle.qd_sub.specs.Watching.{watched}
 use Rattle.qd_sub.specs.Logs.{after, ends_of, after_entry, after_log}
+use Rattle.qd_sub.proofs.KeyEnds.{keys-rest}
 use Rattle.qd_sub.proofs.LogLaws.{after_log-push}
-use Rattle.qd_sub.proofs.OrderLaws.{once}
-use Rattle.qd_sub.proofs.StepLaws.{keys_of-once, keys_of-unsub}
 use Rattle.qd_slots.specs.Holds.{is_subscribed}
 use Rattle.qd_table.specs.declared.table.SubFault.{SubFault}
 use Rattle.qd_table.specs.declared.table.SubFault.TheVariants as faults
@@ -36,11 +31,11 @@ use Rattle.qd_hist_rules.specs.declared.item.HistItem.{HistItem}
 use Rattle.qd_hist_rules.specs.declared.reply.HistoryReply.{HistoryReply}
 use Rattle.qd_hist_rules.specs.declared.reply.HistoryReply.TheVariants.{Done, Items, Wants, TooManyKeys, TooManySubs, HistoryFull, Spent, NoMemory}
 use Rattle.qd_hist_rules.specs.Moments.{HistAct, HistMoment, event_key, item_key}
-use Rattle.qd_hist_rules.specs.Takes.{after_gifts, LawfulTake}
+use Rattle.qd_hist_rules.specs.Takes.{after_gifts}
 use Rattle.qd_hist_rules.specs.Legal as legal
-use Rattle.qd_hist_rules.specs.Legal.{HistoryOp, HistoryEntry, last_mark, mark_of, history_acts, moment_of, too_many_keys, too_many_subs, refusal, Answers, IsLawful, Follows, IsLegal}
+use Rattle.qd_hist_rules.specs.Legal.{HistoryOp, HistoryEntry, last_mark, history_acts, moment_of, too_many_keys, too_many_subs, refusal, Answers, IsLawful, Follows, IsLegal}
 use Rattle.qd_hist_stand.specs.Stripes.{Shown, StandsAt, Stands, queue_at, due_at, floor_at, floor_in, no_keeps, terms_in}
-use Rattle.qd_hist_stand.specs.Steps.{IsPut, IsSubscribing, IsDropped, IsGiven, GivesAll, IsTurned, IsTelling, IsRoomier}
+use Rattle.qd_hist_stand.specs.Steps.{IsDropped, GivesAll, IsTelling, IsRoomier}
 use Rattle.qd_hist_stand.specs.Laws.{RoomierStands, SubscribingStands, DroppedStands, ClosedStands, TellingStands, PutStands, GivenStands, TurnedStands, TakeIsLawful, FullIsTold, SpentIsTold, FaultIsTold}
 use Rattle.qd_hist_stand.proofs.Rooms.{roomier-stands}
 use Rattle.qd_hist_stand.proofs.Subscribing.{subscribing-stands}
@@ -52,9 +47,7 @@ use Rattle.qd_hist_stand.proofs.Turn.{stands-turned}
 use Rattle.qd_hist_stand.proofs.Take.{take-lawful}
 use Rattle.qd_hist_stand.proofs.Put.{put_stands}
 use Rattle.qd_hist_stand.proofs.Refusals.{full-told, spent-told, fault-told}
-use Rattle.qd_history.specs.Rooms.{wanted_count}
-use Rattle.qd_history.specs.Steps.{SubscribesAll, IsAdded, AddsBy, RemovesAt, RemovesAll, EndsAll, PutsAll, IsPutAll, PutsBy, is_full, is_spent, Gift, GivesEach, last_slot, IsIdleAt, IsIdle, Ends, Takes, items_of, StepsTo}
-use Rattle.qd_sub.proofs.SinceLaws.{and-left}
+use Rattle.qd_history.specs.Steps.{SubscribesAll, AddsBy, RemovesAt, RemovesAll, EndsAll, PutsAll, PutsBy, is_full, is_spent, Gift, GivesEach, last_slot, IsIdleAt, Takes, items_of, StepsTo}
 
 -- the laws of a stripe, and that it judges as its moment does
 pub record HasLaws : Type 0 where
@@ -183,28 +176,6 @@ removes-stand l a (k ∷ ks) s t now st (mid, step, rest) =
 -- a Close
 abbrev close_lead : ℕ → HistMoment → HistMoment
 close_lead a now = after now (map (Unsubscribed a) (keys_of a now) ++ Closed a ∷ [])
-
-filter-alone : (ks : List Key) (k : Key) → has_key ks k ≡ false → filter (λ j. not (key_eq k j)) ks ≡ ks
-filter-alone [] k h = refl
-filter-alone (j ∷ ks) k h =
-    let go : (c : Bool) → key_eq k j ≡ c → filter (λ i. not (key_eq k i)) (j ∷ ks) ≡ j ∷ ks =
-    elim [
-      | true ↦ λ e. let z = rw e at h in cc
-      | false ↦ λ e. rw e (ap (λ js. j ∷ js) (filter-alone ks k (rw e at h)))
-    ] in
-    go (key_eq k j) refl
-
-once-first : (k : Key) (ks : List Key) → once key_eq (k ∷ ks) ≡ true → has_key ks k ≡ false
-unfolding once
-once-first k ks h = not-true (has_key ks k) (and-left (not (has_key ks k)) (once key_eq ks) h)
-
-filter-first : (k : Key) (ks : List Key) → once key_eq (k ∷ ks) ≡ true → filter (λ j. not (key_eq k j)) (k ∷ ks) ≡ ks
-filter-first k ks h = rw (key_eq-same k) (filter-alone ks k (once-first k ks h))
-
-keys-rest : (a : ℕ) (k : Key) (ks : List Key) (m : HistMoment) → keys_of a m ≡ k ∷ ks → keys_of a (Unsubscribed a k ∷ m) ≡ ks
-keys-rest a k ks m e =
-    keys_of-unsub a a k m ∙ ap (λ b. if b then filter (λ j. not (key_eq k j)) (keys_of a m) else keys_of a m) (same a) ∙ ap (filter (λ j. not (key_eq k j))) e
-    ∙ filter-first k ks (ap (once key_eq) (sym e) ∙ keys_of-once a m)
 
 close-step : (a : ℕ) (k : Key) (ks : List Key) (m : HistMoment) → keys_of a m ≡ k ∷ ks → close_lead a (Unsubscribed a k ∷ m) ≡ close_lead a m
 unfolding after

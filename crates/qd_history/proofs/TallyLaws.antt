@@ -1,11 +1,9 @@
 -- How many events of each slot were counted, while room is made for them.
-use Rattle.std.proofs.Common.{◌≡◌, ◌⊎◌, inl, inr, ℕ, zero, suc, ◌+◌, ◌<◌, ◌≤◌, Bool, true, false, nat_eq, Option, Some, None, List, [], ◌∷◌, length, drop, slice_set, slice_index_or, get_or-set_other, get_or-set_same, refl, ap, sym, ◌∙◌, arith, subst}
-use Rattle.std.proofs.Math.ListN.{drop_of_length-le}
+use Rattle.std.proofs.Common.{◌≡◌, ◌⊎◌, inl, inr, ℕ, zero, suc, ◌+◌, ◌<◌, ◌≤◌, Bool, true, false, nat_eq, Some, None, List, [], ◌∷◌, length, drop, slice_set, get_or-set_other, get_or-set_same, refl, ap, sym, ◌∙◌, arith, subst}
 use Rattle.qd_scheme.specs.declared.key.Event.{Event}
 use Rattle.qd_pend.proofs.ListLaws.{same, equal, unequal}
-use Rattle.qd_slots.specs.Holds.{is_subscribed}
 use Rattle.qd_table.specs.Tables.{Table}
-use Rattle.qd_table.proofs.TableLaws.{true-false, apart-numbers}
+use Rattle.qd_table.proofs.TableLaws.{apart-numbers}
 use Rattle.qd_hist_stand.specs.Stripes.{Track, Side}
 use Rattle.qd_history.specs.Tracks.{Tracks, track_at, wanted_slot}
 use Rattle.qd_history.specs.Sides.{sided_at, spared_at, HasRoom}

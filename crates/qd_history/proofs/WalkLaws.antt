@@ -1,5 +1,5 @@
 -- One step more of a walk over subscriptions, keys, events or gifts.
-use Rattle.std.proofs.Common.{◌≡◌, ◌⊎◌, inl, inr, ℕ, suc, zero, ◌+◌, ◌-◌, ◌<◌, ◌≤◌, Bool, true, false, not, nat_eq, if◌then◌else◌, Option, Some, None, List, [], ◌∷◌, ◌++◌, length, map, drop, get_or, refl, ap, sym, ◌∙◌, subst, arith}
+use Rattle.std.proofs.Common.{◌≡◌, ◌⊎◌, ℕ, suc, ◌+◌, ◌-◌, ◌<◌, ◌≤◌, Bool, true, false, not, nat_eq, if◌then◌else◌, Some, None, List, [], ◌∷◌, ◌++◌, length, drop, get_or, refl, ap, sym, ◌∙◌, subst, arith}
 use Rattle.std.specs.List.{filter}
 use Rattle.std.proofs.Math.ListN.{drop_of_length-le}
 use Rattle.qd_scheme.specs.declared.key.Key.{Key}
@@ -14,7 +14,7 @@ use Rattle.qd_hist_stand.specs.Stripes.{Shown}
 use Rattle.qd_hist_stand.specs.Steps.{IsPut, IsSubscribing, IsDropped, IsGiven}
 use Rattle.qd_history.specs.Rooms.{CanPut}
 use Rattle.qd_history.specs.Steps.{SubscribesAll, RemovesAt, RemovesAll, PutsAll, EndsAll, Gift, GivesEach, last_slot, items_of}
-use Rattle.qd_history.proofs.RoomLaws.{left-from, can-one}
+use Rattle.qd_history.proofs.RoomLaws.{left-from}
 
 pub subscribes-more : (s mid fin : Shown) (a slot i : ℕ) (xs : List Sub) (x : Sub) → i < length xs → x ≡ get_or xs i x → IsSubscribing s a x.key x.limit slot mid → SubscribesAll mid a (drop (i + 1) xs) fin → SubscribesAll s a (drop i xs) fin
 unfolding SubscribesAll

@@ -1,5 +1,5 @@
 -- What is kept for an agent of one slot and of all.
-use Rattle.std.specs.Prelude.{ℕ, ◌≡◌, ◌⊎◌, ◌≤◌, ◌<◌, ◌+◌, Bool, true, false, min, nat_eq, List, length, slice_index_or}
+use Rattle.std.specs.Prelude.{ℕ, ◌≡◌, ◌⊎◌, ◌≤◌, ◌<◌, ◌+◌, true, false, min, nat_eq, List, length, slice_index_or}
 use Rattle.std.specs.List.{sum_by}
 use Rattle.qd_slots.specs.Holds.{is_subscribed}
 use Rattle.qd_table.specs.Tables.{Table, hold_for}

@@ -1,5 +1,5 @@
 -- What is kept of all keys by slot, and how many events are kept and held back in all.
-use Rattle.std.specs.Prelude.{ℕ, ◌≡◌, Bool, false, nat_eq, if◌then◌else◌, Option, Some, None, List, [], length, slice_index_or}
+use Rattle.std.specs.Prelude.{ℕ, ◌≡◌, if◌then◌else◌, Option, Some, None, List, [], slice_index_or}
 use Rattle.std.specs.List.{sum_by}
 use Rattle.qd_scheme.specs.declared.key.Key.{Key}
 use Rattle.qd_table.specs.Tables.{Table, slot_for, is_wanted_slot}

@@ -8,9 +8,8 @@ use Rattle.qd_line.specs.Lines.{joined}
 use Rattle.qd_scheme.specs.declared.defs.RecordDef.{RecordDef}
 use Rattle.qd_items.specs.declared.ends.TextEnd.{TextEnd}
 use Rattle.qd_items.specs.declared.ends.TextEnd.TheVariants.{End, CutOff, Bad, LineTooLong, TooMuch, ReadFault, NoMemory}
-use Rattle.qd_items.specs.Judging.{Numbered, Stop, StopsAt, NoneBehind, items_of, said, state_of, stop_of, with_said}
-use Rattle.qd_items.specs.Judging.Stop.{Open, AtEnd, AtBad}
-use Rattle.qd_items.specs.Standing.{Kept, Past, IsTaken, StandsFor}
+use Rattle.qd_items.specs.Judging.{Numbered, Stop, StopsAt, NoneBehind, items_of, said, state_of, with_said}
+use Rattle.qd_items.specs.Standing.{Past, IsTaken}
 use Rattle.qd_items.specs.Ends.{IsEnded}
 
 -- each line has at least its line feed

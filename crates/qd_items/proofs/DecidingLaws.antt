@@ -1,15 +1,14 @@
 -- A text decides one end, and the lines before it.
-use Rattle.std.proofs.Common.{ℕ, ◌≡◌, ◌+◌, ◌-◌, ◌<◌, ◌≤◌, ◌^◌, true, Option, Some, None, List, [], ◌∷◌, ◌++◌, length, take, drop, refl, sym, ◌∙◌, ap, subst, arith, append_assoc, inl, inr, length-append, length-take}
+use Rattle.std.proofs.Common.{ℕ, ◌≡◌, ◌+◌, ◌-◌, ◌<◌, ◌≤◌, ◌^◌, Option, Some, None, List, [], ◌∷◌, ◌++◌, length, take, drop, refl, sym, ◌∙◌, ap, subst, arith, append_assoc, inl, inr, length-append, length-take}
 use Rattle.std.specs.Prelude.{◌⊎◌}
 use Rattle.std.proofs.lemmas.Bool.{cases_lt}
 use Rattle.std.proofs.lemmas.List.{append-nil, take-append-drop}
 use Rattle.qd_grammar.specs.declared.item.Mode.{Mode}
 use Rattle.qd_line.specs.Cutter.{IsHungry, IsTooLong, AreShort}
-use Rattle.qd_line.specs.Lines.{is_one_line, joined, IsCut}
+use Rattle.qd_line.specs.Lines.{joined, IsCut}
 use Rattle.qd_outside.specs.Causes.{Rose}
 use Rattle.qd_outside.specs.Reading.{Took}
 use Rattle.qd_scheme.specs.declared.defs.RecordDef.{RecordDef}
-use Rattle.qd_text.specs.declared.reader.BadLine.{BadLine}
 use Rattle.qd_items.specs.declared.ends.TextEnd.{TextEnd}
 use Rattle.qd_items.specs.declared.ends.TextEnd.TheVariants.{End, CutOff, Bad, LineTooLong, TooMuch, ReadFault, NoMemory}
 use Rattle.qd_items.specs.Judging.{Stop, stop_of, stop_with, said, state_of, or_first, StopsAt, NoneBehind}

@@ -1,5 +1,5 @@
 -- Each text decides an end: its lines are judged one after another, until one stops it or no whole line is left.
-use Rattle.std.proofs.Common.{ℕ, zero, suc, ◌≡◌, ◌+◌, ◌-◌, ◌<◌, ◌≤◌, ◌^◌, min, Bool, true, false, cond, Option, Some, None, Result, Ok, Err, List, [], ◌∷◌, ◌++◌, length, take, drop, refl, sym, ◌∙◌, ap, subst, arith, inl, inr, length-append, length-take, length-drop}
+use Rattle.std.proofs.Common.{ℕ, zero, suc, ◌≡◌, ◌+◌, ◌-◌, ◌<◌, ◌≤◌, ◌^◌, Bool, true, false, cond, Option, Some, None, Result, Ok, Err, List, [], ◌∷◌, ◌++◌, length, take, drop, refl, sym, ◌∙◌, ap, subst, arith, inl, inr, length-append, length-take}
 use Rattle.std.specs.Prelude.{◌⊎◌, ◌&&◌, not, nat_eq}
 use Rattle.std.proofs.lemmas.Bool.{cases_lt, eqb-true}
 use Rattle.std.proofs.lemmas.List.{take-append-drop, take_all}
@@ -11,12 +11,12 @@ use Rattle.qd_line.specs.Lines.{is_one_line}
 use Rattle.qd_scheme.specs.declared.defs.RecordDef.{RecordDef}
 use Rattle.qd_items.specs.declared.ends.TextEnd.{TextEnd}
 use Rattle.qd_items.specs.declared.ends.TextEnd.TheVariants.{End, CutOff, Bad, LineTooLong, TooMuch}
-use Rattle.qd_items.specs.Judging.{Stop, is_end, said, state_of, stop_of, stop_with}
-use Rattle.qd_items.specs.Judging.Stop.{Open, AtEnd, AtBad}
-use Rattle.qd_items.specs.Standing.{Past, IsTaken, nothing}
+use Rattle.qd_items.specs.Judging.{is_end, said, state_of, stop_of, stop_with}
+use Rattle.qd_items.specs.Judging.Stop.{Open, AtEnd}
+use Rattle.qd_items.specs.Standing.{IsTaken}
 use Rattle.qd_items.specs.Ends.{Causes}
 use Rattle.qd_items.specs.Deciding.{Decides}
-use Rattle.qd_items.proofs.StepLaws.{stop_line, taken_line, with_line}
+use Rattle.qd_items.proofs.StepLaws.{stop_line, taken_line}
 
 -- a line, and what follows its line feed
 record Cut (n : ℕ) (rest : List ℕ) : Type 0 where

@@ -1,36 +1,10 @@
 -- The lines of one text, cut off in two ways: one list is the first of the other, and a further line begins with the rest.
-use Rattle.std.proofs.Common.{ℕ, ◌≡◌, ◌+◌, ◌-◌, ◌<◌, ◌≤◌, Bool, true, false, List, [], ◌∷◌, ◌++◌, length, take, drop, refl, sym, ◌∙◌, ap, subst, arith, append_assoc, inl, inr, length-append, length-drop}
+use Rattle.std.proofs.Common.{ℕ, ◌≡◌, ◌+◌, ◌-◌, ◌<◌, ◌≤◌, true, List, [], ◌∷◌, ◌++◌, length, take, drop, refl, sym, ◌∙◌, ap, subst, arith, append_assoc, length-append, length-drop}
 use Rattle.std.specs.Prelude.{not, nat_eq}
 use Rattle.std.proofs.lemmas.List.{append_cancel_left, take-append-drop}
-use Rattle.qd_line.specs.Lines.{is_one_line, AreLines, joined, IsCut}
-use Rattle.qd_line.proofs.Feeds.{and_left, and_right, no_feed_at}
-
--- two ways to cut a line off
-same_cut : (a b x y : List ℕ) → is_one_line a ≡ true → is_one_line b ≡ true → a ++ 10 ∷ x ≡ b ++ 10 ∷ y → (a ≡ b) × (x ≡ y)
-same_cut [] [] x y h k e = (refl, cc)
-same_cut [] (c ∷ b) x y h k e = let q : 10 ≡ c = cc in absurd (no_feed_at (c ∷ b) 0 k (omega arith) (sym q))
-same_cut (c ∷ a) [] x y h k e = let q : c ≡ 10 = cc in absurd (no_feed_at (c ∷ a) 0 h (omega arith) q)
-same_cut (c ∷ a) (d ∷ b) x y h k e =
-    let q : c ≡ d = cc in
-    let r : a ++ 10 ∷ x ≡ b ++ 10 ∷ y = cc in
-    let s = same_cut a b x y (and_right (not (nat_eq c 10)) (is_one_line a) h) (and_right (not (nat_eq d 10)) (is_one_line b) k) r in
-    (ap (λ (t : List ℕ). c ∷ t) s.0 ∙ ap (λ (n : ℕ). n ∷ b) q, s.1)
-
--- the last line of a cut goes back to what is left
-cut_less : (text line rest : List ℕ) (before : List (List ℕ)) → IsCut text (line ∷ before) rest → IsCut text before (line ++ 10 ∷ rest)
-cut_less text line rest before cut = record {
-  whole = cut.whole ∙ append_assoc (joined before) (line ++ 10 ∷ []) rest ∙ ap (λ (t : List ℕ). joined before ++ t) (append_assoc line (10 ∷ []) rest);
-  each = cut.each.1;
-}
-
-same_cuts : (text : List ℕ) (a b : List (List ℕ)) (x y : List ℕ) → IsCut text a x → IsCut text b y → length a ≡ length b → (a ≡ b) × (x ≡ y)
-same_cuts text [] [] x y h k e = (refl, sym h.whole ∙ k.whole)
-same_cuts text [] (d ∷ b) x y h k e = absurd (omega arith)
-same_cuts text (c ∷ a) [] x y h k e = absurd (omega arith)
-same_cuts text (c ∷ a) (d ∷ b) x y h k e =
-    let s = same_cuts text a b (c ++ 10 ∷ x) (d ++ 10 ∷ y) (cut_less text c x a h) (cut_less text d y b k) (omega arith) in
-    let t = same_cut c d x y h.each.0 k.each.0 s.1 in
-    (ap (λ (ls : List (List ℕ)). c ∷ ls) s.0 ∙ ap (λ (l : List ℕ). l ∷ b) t.0, t.1)
+use Rattle.qd_line.specs.Lines.{is_one_line, joined, IsCut}
+use Rattle.qd_line.proofs.Feeds.{and_right, no_feed_at}
+use Rattle.qd_line.proofs.LineLaws.{cut_less, same_cuts}
 
 -- a text cut at its first lines alone
 record IsShorter (text : List ℕ) (lines : List (List ℕ)) : Type 0 where

@@ -1,13 +1,12 @@
 -- A step leads from a past to a longer one, to an item or to the end.
-use Rattle.std.proofs.Common.{ℕ, ◌≡◌, ◌+◌, ◌-◌, ◌*◌, ◌<◌, ◌≤◌, ◌^◌, true, false, Option, Some, None, Result, Ok, Err, List, [], ◌∷◌, ◌++◌, length, refl, sym, ◌∙◌, ap, subst, arith, append_assoc, inl, inr, length-append}
+use Rattle.std.proofs.Common.{ℕ, ◌≡◌, ◌+◌, ◌-◌, ◌*◌, ◌<◌, ◌≤◌, ◌^◌, true, false, Option, Some, None, Ok, Err, List, [], ◌∷◌, ◌++◌, length, refl, sym, ◌∙◌, ap, subst, arith, append_assoc, inl, inr, length-append}
 use Rattle.std.specs.Prelude.{◌⊎◌, ◌==◌, Bool, cond}
 use Rattle.std.proofs.lemmas.List.{append-nil}
-use Rattle.qd_grammar.specs.declared.fault.Fault.{Fault}
 use Rattle.qd_grammar.specs.declared.item.Item.{Item}
 use Rattle.qd_grammar.specs.declared.item.Item.TheVariants as items
 use Rattle.qd_grammar.specs.declared.item.Mode.{Mode}
 use Rattle.qd_grammar.specs.declared.state.State.{State}
-use Rattle.qd_line.specs.Lines.{is_one_line, joined, IsCut, without_cr}
+use Rattle.qd_line.specs.Lines.{is_one_line, joined, without_cr}
 use Rattle.qd_line.proofs.Pasts.{cut_more}
 use Rattle.qd_outside.specs.Reading.{Took}
 use Rattle.qd_outside.proofs.Streams.{Took-none, Took-more}
@@ -19,11 +18,11 @@ use Rattle.qd_items.specs.declared.ends.TextEnd.TheVariants.{End, CutOff, Bad, L
 use Rattle.qd_items.specs.declared.items.Next.{Next}
 use Rattle.qd_items.specs.declared.items.Next.TheVariants as nexts
 use Rattle.qd_items.specs.Judging.{Numbered, is_end, said, items_of, state_of, stop_of, stop_with, with_said, or_first}
-use Rattle.qd_items.specs.Judging.Stop.{Open, AtEnd, AtBad}
+use Rattle.qd_items.specs.Judging.Stop.{Open, AtBad}
 use Rattle.qd_items.specs.Standing.{Kept, Past, IsTaken, StandsFor, IsRead, opening, nothing}
-use Rattle.qd_items.specs.Steps.{Judges, Reads, Steps, WentOn}
+use Rattle.qd_items.specs.Steps.{Judges, Steps, WentOn}
 use Rattle.qd_items.specs.Work.{work, Lowers}
-use Rattle.qd_items.specs.Ends.{IsEnded, EndsAt, ComesNext}
+use Rattle.qd_items.specs.Ends.{EndsAt, ComesNext}
 
 -- the past with one more line judged, and with more bytes taken
 abbrev pub with_line : List ℕ → Past → Past

@@ -1,5 +1,5 @@
 -- How a text alone decides its end, and the lines that are judged before it.
-use Rattle.std.specs.Prelude.{ℕ, ◌≡◌, ◌⊎◌, Some, None, Option, List, [], ◌++◌, length}
+use Rattle.std.specs.Prelude.{ℕ, ◌≡◌, ◌⊎◌, Some, Option, List, ◌++◌, length}
 use Rattle.qd_grammar.specs.declared.item.Mode.{Mode}
 use Rattle.qd_outside.specs.Causes.{Rose}
 use Rattle.qd_scheme.specs.declared.defs.RecordDef.{RecordDef}

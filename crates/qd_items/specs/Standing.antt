@@ -9,7 +9,7 @@ use Rattle.qd_line.specs.Cutter.{AreShort}
 use Rattle.qd_line.specs.Lines.{IsCut}
 use Rattle.qd_outside.specs.Reading.{Took}
 use Rattle.qd_scheme.specs.declared.defs.RecordDef.{RecordDef}
-use Rattle.qd_items.specs.Judging.{Stop, state_of, stop_of}
+use Rattle.qd_items.specs.Judging.{state_of, stop_of}
 use Rattle.qd_items.specs.Judging.Stop.{Open}
 
 -- the item that came last, whose text it reads, the state that the lines so far leave, the bytes that are not judged

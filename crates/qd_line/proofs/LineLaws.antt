@@ -59,7 +59,7 @@ pub lines_in_a_row : (first second : List ℕ) → lines (first ++ second) ≡ l
 lines_in_a_row first second = behind_both [] first second refl
 
 -- two ways to cut a line off
-same_cut : (a b x y : List ℕ) → is_one_line a ≡ true → is_one_line b ≡ true → a ++ 10 ∷ x ≡ b ++ 10 ∷ y → (a ≡ b) × (x ≡ y)
+pub same_cut : (a b x y : List ℕ) → is_one_line a ≡ true → is_one_line b ≡ true → a ++ 10 ∷ x ≡ b ++ 10 ∷ y → (a ≡ b) × (x ≡ y)
 same_cut [] [] x y h k e = (refl, cc)
 same_cut [] (c ∷ b) x y h k e = let q : 10 ≡ c = cc in absurd (no_feed_at (c ∷ b) 0 k (omega arith) (sym q))
 same_cut (c ∷ a) [] x y h k e = let q : c ≡ 10 = cc in absurd (no_feed_at (c ∷ a) 0 h (omega arith) q)
@@ -70,13 +70,13 @@ same_cut (c ∷ a) (d ∷ b) x y h k e =
     (ap (λ (t : List ℕ). c ∷ t) s.0 ∙ ap (λ (n : ℕ). n ∷ b) q, s.1)
 
 -- the last line of a cut goes back to what is left
-cut_less : (text line rest : List ℕ) (before : List (List ℕ)) → IsCut text (line ∷ before) rest → IsCut text before (line ++ 10 ∷ rest)
+pub cut_less : (text line rest : List ℕ) (before : List (List ℕ)) → IsCut text (line ∷ before) rest → IsCut text before (line ++ 10 ∷ rest)
 cut_less text line rest before cut = record {
   whole = cut.whole ∙ append_assoc (joined before) (line ++ 10 ∷ []) rest ∙ ap (λ (t : List ℕ). joined before ++ t) (append_assoc line (10 ∷ []) rest);
   each = cut.each.1;
 }
 
-same_cuts : (text : List ℕ) (a b : List (List ℕ)) (x y : List ℕ) → IsCut text a x → IsCut text b y → length a ≡ length b → (a ≡ b) × (x ≡ y)
+pub same_cuts : (text : List ℕ) (a b : List (List ℕ)) (x y : List ℕ) → IsCut text a x → IsCut text b y → length a ≡ length b → (a ≡ b) × (x ≡ y)
 same_cuts text [] [] x y h k e = (refl, sym h.whole ∙ k.whole)
 same_cuts text [] (d ∷ b) x y h k e = absurd (omega arith)
 same_cuts text (c ∷ a) [] x y h k e = absurd (omega arith)

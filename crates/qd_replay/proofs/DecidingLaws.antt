@@ -7,10 +7,9 @@ use Rattle.qd_grammar.specs.declared.item.Mode.{Mode}
 use Rattle.qd_grammar.specs.declared.item.Mode.TheVariants.{File}
 use Rattle.qd_items.specs.declared.ends.RunEnd.{RunEnd}
 use Rattle.qd_items.specs.declared.ends.RunEnd.TheVariants as ends
-use Rattle.qd_items.specs.declared.ends.TextEnd.{TextEnd}
 use Rattle.qd_items.specs.declared.ends.TextEnd.TheVariants as texts
 use Rattle.qd_items.specs.Ends.{IsEnded as IsTextEnded}
-use Rattle.qd_items.specs.Judging.{Numbered, said, state_of, with_said, items_of, Stop, stop_of, is_end}
+use Rattle.qd_items.specs.Judging.{Numbered, said, state_of, with_said, items_of, stop_of, is_end}
 use Rattle.qd_items.specs.Judging.Stop.{Open, AtEnd}
 use Rattle.qd_items.specs.Runs.{run_end}
 use Rattle.qd_items.specs.Standing.{Past, IsTaken}
@@ -22,7 +21,7 @@ use Rattle.qd_replay.specs.declared.stripes.Refusal.{Refusal}
 use Rattle.qd_replay.specs.declared.stripes.Refusal.TheVariants as refusals
 use Rattle.qd_replay.specs.Calls.{Call, Act}
 use Rattle.qd_replay.specs.Calls.Act.{Ask}
-use Rattle.qd_replay.specs.Deciding.{NoneBad, NeverRefused, IsSound, NoFault}
+use Rattle.qd_replay.specs.Deciding.{NoneBad, IsSound, NoFault}
 use Rattle.qd_replay.specs.Ends.{Outside, stop_at, IsOfItem, IsOfText, IsCaused, IsBegun, Ends}
 use Rattle.qd_replay.specs.Running.{Logs, IsRefused}
 use Rattle.qd_replay.specs.Scripts.{script_of, acts_with, acts_of, is_bad}

@@ -1,8 +1,7 @@
 -- How a step ends a run, and how it goes on.
-use Rattle.std.proofs.Common.{ℕ, ◌≡◌, ◌==◌, ◌⊎◌, inl, inr, Bool, true, false, Option, Some, None, Result, Ok, Err, List, [], ◌∷◌, ◌++◌, refl, sym, ◌∙◌, ap, append_assoc, length, map, subst}
+use Rattle.std.proofs.Common.{ℕ, ◌≡◌, ◌==◌, ◌⊎◌, inl, inr, true, false, Option, Some, None, Result, Ok, Err, List, [], ◌∷◌, ◌++◌, refl, sym, ◌∙◌, ap, append_assoc, length, subst}
 use Rattle.std.proofs.lemmas.List.{append-nil}
 use Rattle.qd_buffer.specs.Filled.{Filled}
-use Rattle.qd_gate.specs.declared.machine.Entry.{Entry}
 use Rattle.qd_gate.specs.Logs.{entry}
 use Rattle.qd_outside.specs.Buffering.{Prints}
 use Rattle.qd_outside.specs.Writing.{IsCutShort}
@@ -16,10 +15,8 @@ use Rattle.qd_sub.specs.declared.op.Reply.{Reply}
 use Rattle.qd_sub.specs.declared.op.Reply.TheVariants as replies
 use Rattle.qd_ticker.specs.Legal as ticker
 use Rattle.qd_ticker.specs.Stripes as ticker_stripes
-use Rattle.qd_stream.specs.declared.item.StreamItem.{StreamItem}
 use Rattle.qd_stream.specs.Legal as stream
 use Rattle.qd_stream.specs.Stripes as stream_stripes
-use Rattle.qd_hist_rules.specs.declared.item.HistItem.{HistItem}
 use Rattle.qd_hist_rules.specs.declared.reply.HistoryReply.{HistoryReply}
 use Rattle.qd_hist_rules.specs.declared.reply.HistoryReply.TheVariants as events
 use Rattle.qd_hist_rules.specs.Legal as history
@@ -30,9 +27,8 @@ use Rattle.qd_grammar.specs.declared.item.Collector.TheVariants as collectors
 use Rattle.qd_grammar.specs.declared.item.Item.{Item}
 use Rattle.qd_grammar.specs.declared.item.Item.TheVariants as items
 use Rattle.qd_grammar.specs.declared.item.Message.{Message}
-use Rattle.qd_items.specs.declared.ends.Limit.{Limit}
 use Rattle.qd_items.specs.declared.ends.RunEnd.{RunEnd}
-use Rattle.qd_items.specs.declared.ends.RunEnd.TheVariants.{Done, BadStep, Refused, WriteFault, Spent, NoMemory}
+use Rattle.qd_items.specs.declared.ends.RunEnd.TheVariants.{Done, Refused, WriteFault, Spent, NoMemory}
 use Rattle.qd_replay.specs.declared.stripes.Stripes.{Stripes}
 use Rattle.qd_replay.specs.declared.stripes.Refusal.{Refusal}
 use Rattle.qd_replay.specs.declared.stripes.Refusal.TheVariants as refusals
@@ -41,10 +37,10 @@ use Rattle.qd_replay.specs.Calls.{Call, Answer, Act, full_of, asks, adds, remove
 use Rattle.qd_replay.specs.Calls.Call.{Ticker, Stream, History}
 use Rattle.qd_replay.specs.Calls.Act.{Ask, Say}
 use Rattle.qd_replay.specs.Replies.{line_of}
-use Rattle.qd_replay.specs.Running.{Logs, Ran, Has, Stand, AreLegal, Tells, TellsEvent, IsGranted, IsRefusal, IsTurnedDown, IsRefused, logged, text_of, with_call}
+use Rattle.qd_replay.specs.Running.{Has, IsGranted, IsRefusal, IsTurnedDown, logged, text_of}
 use Rattle.qd_replay.specs.Scripts.{Script, Group, no_group, group_with, kind_of, is_full, is_bad, calls_of, after, acts_with, own_acts, led_by, goes_on}
 use Rattle.qd_replay.specs.Settings.{Caps, Setting}
-use Rattle.qd_replay.specs.Steps.{Grants, GrantsEvent, Makes, Sunk, IsShown, IsAt, IsHalted, Stops, Kept, with_group, without_group, ended_by, WentOn, Turns, Gives, Halts, Hears, ActsItself, is_write_fault, ToldBy}
+use Rattle.qd_replay.specs.Steps.{Grants, GrantsEvent, Makes, Sunk, IsShown, IsAt, IsHalted, Stops, Kept, with_group, without_group, ended_by, Turns, Gives, Halts, Hears, ActsItself, is_write_fault}
 
 -- the ticker took a step, and nothing else changed
 pub ticker_turns : (op : Op Record Record) (reply : Reply Record) (s t : Stripes)

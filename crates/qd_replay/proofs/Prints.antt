@@ -1,7 +1,6 @@
 -- Texts that are printed one after another.
-use Rattle.std.proofs.Common.{ℕ, ◌≡◌, ◌+◌, ◌<◌, ◌≤◌, Bool, true, false, Option, Some, None, List, [], ◌∷◌, ◌++◌, refl, sym, ◌∙◌, ap, append_assoc, drop, map, length, get_or, arith}
+use Rattle.std.proofs.Common.{ℕ, ◌≡◌, ◌+◌, ◌<◌, ◌≤◌, Bool, true, false, Option, Some, None, List, [], ◌∷◌, ◌++◌, refl, sym, ◌∙◌, ap, append_assoc, drop, map, length, get_or}
 use Rattle.std.proofs.lemmas.List.{append-nil, drop_more, drop_all}
-use Rattle.qd_outside.specs.Writing.{IsWritten, IsCutShort}
 use Rattle.qd_outside.specs.Buffering.{Prints}
 use Rattle.qd_outside.proofs.Streams.{Gained-none, cut_more, cut_after, written_after}
 use Rattle.qd_scheme.specs.declared.defs.RecordDef.{RecordDef}

@@ -1,7 +1,6 @@
 -- Worked scripts, computed from the definitions alone.
-use Rattle.std.proofs.Common.{◌≡◌, ℕ, Some, None, List, [], ◌∷◌, ◌++◌, refl, map}
+use Rattle.std.proofs.Common.{◌≡◌, ℕ, Some, None, List, [], ◌∷◌, ◌++◌, refl}
 use Rattle.std.specs.Prelude.{pos, codes, true, false}
-use Rattle.qd_scheme.specs.Builtin.{builtin_defs, quote_def, trade_def, candle_def, order_def, price, count}
 use Rattle.qd_scheme.specs.declared.key.Key.{Key}
 use Rattle.qd_scheme.specs.declared.key.Record.{Record}
 use Rattle.qd_sub.specs.declared.sub.Sub.{Sub}
@@ -9,13 +8,13 @@ use Rattle.qd_sub.specs.declared.op.Op.TheVariants.{Add, Remove, Put}
 use Rattle.qd_grammar.specs.declared.item.Collector.TheVariants as collectors
 use Rattle.qd_grammar.specs.declared.item.Item.{Item}
 use Rattle.qd_grammar.specs.declared.item.Item.TheVariants as items
-use Rattle.qd_grammar.specs.declared.item.Message.TheVariants.{TickerData, TickerAdd, TickerRemove, StreamData, StreamAdd, StreamLost, HistoryData}
+use Rattle.qd_grammar.specs.declared.item.Message.TheVariants.{TickerData, TickerAdd, TickerRemove, StreamData, StreamAdd, StreamLost}
 use Rattle.qd_items.specs.Judging.{Numbered}
 use Rattle.qd_stream.specs.declared.item.StreamItem.TheVariants as stream_items
-use Rattle.qd_replay.specs.Calls.{Act, full_of, ticker_take, stream_take}
+use Rattle.qd_replay.specs.Calls.{full_of, ticker_take, stream_take}
 use Rattle.qd_replay.specs.Calls.Call.{Ticker, Stream}
 use Rattle.qd_replay.specs.Calls.Act.{Ask, Say}
-use Rattle.qd_replay.specs.Scripts.{acts_of, script_of, is_bad, plain_sub}
+use Rattle.qd_replay.specs.Scripts.{acts_of, is_bad, plain_sub}
 
 abbrev ibm : Key
 ibm = record { rec = 0; sym = codes "IBM" }

@@ -1,7 +1,6 @@
 -- A run goes from item to item, and ends.
-use Rattle.std.proofs.Common.{ℕ, ◌≡◌, ◌+◌, ◌<◌, ◌≤◌, ◌⊎◌, inl, inr, Bool, true, false, nat_eq, Option, Some, None, List, [], ◌∷◌, ◌++◌, length, refl, sym, ◌∙◌, ap, append_assoc, length-append, arith, cond}
+use Rattle.std.proofs.Common.{ℕ, ◌≡◌, ◌+◌, ◌<◌, ◌≤◌, ◌⊎◌, inl, inr, Bool, true, false, nat_eq, Option, None, List, [], ◌∷◌, ◌++◌, length, refl, sym, ◌∙◌, ap, append_assoc, length-append, arith, cond}
 use Rattle.std.proofs.lemmas.List.{append-nil}
-use Rattle.std.proofs.lemmas.Bool.Decides.{nat_tests}
 use Rattle.std.proofs.lemmas.Bool.{eqb-false}
 use Rattle.qd_grammar.specs.declared.item.Item.{Item}
 use Rattle.qd_grammar.specs.declared.item.Item.TheVariants as items
@@ -12,13 +11,12 @@ use Rattle.qd_items.specs.declared.ends.RunEnd.TheVariants as ends
 use Rattle.qd_items.specs.declared.ends.TextEnd.{TextEnd}
 use Rattle.qd_items.specs.declared.ends.TextEnd.TheVariants as texts
 use Rattle.qd_items.specs.declared.items.Next.TheVariants as nexts
-use Rattle.qd_items.specs.Ends.{Cause, ComesNext, last_items}
-use Rattle.qd_items.specs.Judging.{Numbered, items_of, Stop, stop_of, is_end}
-use Rattle.qd_items.specs.Judging.Stop.{Open, AtEnd}
+use Rattle.qd_items.specs.Ends.{ComesNext, last_items}
+use Rattle.qd_items.specs.Judging.{Numbered, items_of, stop_of}
+use Rattle.qd_items.specs.Judging.Stop.{Open}
 use Rattle.qd_items.specs.Runs.{run_end}
 use Rattle.qd_items.specs.Standing.{Kept, Past, IsTaken, IsRead, nothing, opening}
 use Rattle.qd_items.proofs.StepLaws.{opening_read}
-use Rattle.qd_outside.specs.Causes.{Rose}
 use Rattle.qd_outside.specs.Reading.{Took}
 use Rattle.qd_outside.specs.Writing.{IsWritten, IsCutShort}
 use Rattle.qd_outside.proofs.Streams.{Gained-none, Gained-more, Took-none}
@@ -34,8 +32,8 @@ use Rattle.qd_replay.specs.declared.kind.Kind.TheVariants.{Body, Description, Co
 use Rattle.qd_replay.specs.declared.stripes.Stripes.{Stripes}
 use Rattle.qd_replay.specs.Calls.{Act}
 use Rattle.qd_replay.specs.Ends.{Outside, sunk, stop_at, IsCaused, IsEnded, IsRunning, Ends, IsFlushed, Finishes, LastBy}
-use Rattle.qd_replay.specs.Running.{Logs, Stand, caps_of, no_logs}
-use Rattle.qd_replay.specs.Scripts.{Script, Group, start, size, plain_sub, no_group, with_sub, with_key, with_record, with_item, with_event, is_full, is_adding, is_streaming, group_with, kind_of, after as after_item, after_kind, joined_by, led_by, script_of, acts_with, acts_of, goes_on, AreOpen}
+use Rattle.qd_replay.specs.Running.{Logs, Stand, no_logs}
+use Rattle.qd_replay.specs.Scripts.{Script, Group, start, size, plain_sub, no_group, with_sub, with_key, with_record, with_item, with_event, is_full, is_adding, is_streaming, group_with, kind_of, after as after_item, after_kind, led_by, script_of, acts_with, acts_of, AreOpen}
 use Rattle.qd_replay.specs.Settings.{Caps, Setting}
 use Rattle.qd_replay.specs.Steps.{Kept as EngineKept, Sunk, IsShown, IsAt, Halts, Hears, Stops, is_write_fault, ToldBy}
 use Rattle.qd_replay.proofs.Halts.{shown_cut}

@@ -1,5 +1,5 @@
 -- How a run ends, with the cause of each end.
-use Rattle.std.specs.Prelude.{ℕ, ◌≡◌, ◌⊎◌, ◌^◌, Bool, true, false, if◌then◌else◌, Option, Some, None, List, [], ◌∷◌, ◌++◌, length}
+use Rattle.std.specs.Prelude.{ℕ, ◌≡◌, ◌⊎◌, ◌^◌, Bool, true, false, if◌then◌else◌, Option, List, [], ◌∷◌, ◌++◌, length}
 use Rattle.qd_grammar.specs.declared.item.Item.TheVariants as items
 use Rattle.qd_grammar.specs.declared.item.Mode.TheVariants.{File}
 use Rattle.qd_items.specs.declared.ends.RunEnd.{RunEnd}
@@ -11,7 +11,6 @@ use Rattle.qd_items.specs.Judging.{Numbered, items_of, Stop, stop_of, is_end}
 use Rattle.qd_items.specs.Judging.Stop.{Open, AtEnd}
 use Rattle.qd_items.specs.Runs.{run_end}
 use Rattle.qd_items.specs.Standing.{Kept, Past, IsTaken, IsRead}
-use Rattle.qd_outside.specs.Buffering.{Drains}
 use Rattle.qd_outside.specs.Causes.{Rose}
 use Rattle.qd_outside.specs.Reading.{Took}
 use Rattle.qd_outside.specs.Writing.{IsWritten, IsCutShort}
@@ -19,7 +18,7 @@ use Rattle.qd_scheme.specs.declared.defs.RecordDef.{RecordDef}
 use Rattle.qd_replay.specs.declared.stripes.Stripes.{Stripes}
 use Rattle.qd_replay.specs.Calls.{Act}
 use Rattle.qd_replay.specs.Running.{Logs, Ran, AreLegal}
-use Rattle.qd_replay.specs.Scripts.{Script, script_of, acts_with, acts_of, AreOpen}
+use Rattle.qd_replay.specs.Scripts.{script_of, acts_with, acts_of, AreOpen}
 use Rattle.qd_replay.specs.Settings.{Caps, Setting}
 use Rattle.qd_replay.specs.Steps.{Kept as EngineKept, Sunk, IsAt, Halts, ToldBy, is_write_fault, Stops}
 

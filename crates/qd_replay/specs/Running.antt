@@ -20,7 +20,6 @@ use Rattle.qd_grammar.specs.declared.item.Collector.TheVariants as collectors
 use Rattle.qd_replay.specs.declared.stripes.Stripes.{Stripes}
 use Rattle.qd_replay.specs.declared.stripes.Refusal.{Refusal}
 use Rattle.qd_replay.specs.declared.stripes.Refusal.TheVariants as refusals
-use Rattle.qd_items.specs.declared.ends.Limit.{Limit}
 use Rattle.qd_items.specs.declared.ends.Limit.TheVariants as limits
 use Rattle.qd_replay.specs.Calls.{Call, Answer, Act}
 use Rattle.qd_replay.specs.Calls.Call.{Ticker, Stream, History}

@@ -13,7 +13,7 @@ use Rattle.qd_grammar.specs.declared.item.Collector.{Collector}
 use Rattle.qd_grammar.specs.declared.item.Item.{Item}
 use Rattle.qd_grammar.specs.declared.item.Message.{Message}
 use Rattle.qd_items.specs.declared.ends.RunEnd.{RunEnd}
-use Rattle.qd_items.specs.declared.ends.RunEnd.TheVariants.{Done, CutOff, Bad, LineTooLong, BadStep, Refused, TooMuch, ReadFault, WriteFault, Spent, NoMemory}
+use Rattle.qd_items.specs.declared.ends.RunEnd.TheVariants.{Done, Bad, BadStep, Refused, WriteFault, Spent, NoMemory}
 use Rattle.qd_items.specs.Judging.{is_end}
 use Rattle.qd_replay.specs.declared.group.Joined.{Joined}
 use Rattle.qd_replay.specs.declared.group.Joined.TheVariants as joins
@@ -22,7 +22,7 @@ use Rattle.qd_replay.specs.declared.stripes.Stripes.{Stripes}
 use Rattle.qd_replay.specs.declared.stripes.Refusal.{Refusal}
 use Rattle.qd_replay.specs.declared.stripes.Refusal.TheVariants as refusals
 use Rattle.qd_replay.specs.Calls.{Call, Answer, Act}
-use Rattle.qd_replay.specs.Calls.Act.{Ask, Say}
+use Rattle.qd_replay.specs.Calls.Act.{Ask}
 use Rattle.qd_replay.specs.Replies.{ReplyItem, reply_text}
 use Rattle.qd_replay.specs.Running.{Logs, Ran, Has, AreLegal, Stand, Tells, TellsEvent, IsGranted, IsTurnedDown, IsRefused, logged, text_of}
 use Rattle.qd_replay.specs.Scripts.{Script, Group, no_group, group_with, kind_of, is_bad, after, acts_with, own_acts, led_by, goes_on}

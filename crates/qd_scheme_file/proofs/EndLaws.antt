@@ -19,10 +19,10 @@ use Rattle.qd_text.specs.declared.scheme_reader.SchemeEnd.{SchemeEnd}
 use Rattle.qd_text.specs.declared.scheme_reader.SchemeEnd.TheVariants as ends
 use Rattle.qd_scheme_file.specs.declared.no_scheme.NoScheme.{NoScheme}
 use Rattle.qd_scheme_file.specs.declared.no_scheme.NoScheme.TheVariants.{Bad, Wrong, LineTooLong, TooMuch, ReadFault, NoMemory}
-use Rattle.qd_scheme_file.specs.Told.{read_on, begun, told, finished, judged, with_said, with_text, ◌then◌}
-use Rattle.qd_scheme_file.specs.Ends.{IsSaid, IsLedTo, Cause, Ends, Decides}
+use Rattle.qd_scheme_file.specs.Told.{read_on, begun, told, finished, judged, with_said, ◌then◌}
+use Rattle.qd_scheme_file.specs.Ends.{IsSaid, IsLedTo, Ends, Decides}
 use Rattle.qd_scheme_file.specs.Reading.{no_scheme, Refuses, Answers, IsOpen, StandsFor, ReadsSome, ReadsPiece}
-use Rattle.qd_scheme_file.proofs.ReadLaws.{read_on-append, read_on-nothing, read_on-line, read_on-rest, read_on-long}
+use Rattle.qd_scheme_file.proofs.ReadLaws.{read_on-append, read_on-line, read_on-rest, read_on-long}
 
 -- what follows what was read
 then_on : (was : Result (SchemeText × List ℕ) NoScheme) (text : SchemeText) (left more : List ℕ) → was ≡ Ok (text, left) → (was then (λ (r : SchemeText × List ℕ). read_on r.0 r.1 more)) ≡ read_on text left more

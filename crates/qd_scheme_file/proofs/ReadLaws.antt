@@ -3,7 +3,7 @@ use Rattle.std.proofs.Common.{◌≡◌, ℕ, zero, suc, ◌+◌, ◌<◌, ◌�
 use Rattle.std.specs.Prelude.{◌==◌, ◌&&◌, not, nat_eq, nat_le, Result, Ok, Err}
 use Rattle.std.proofs.lemmas.Bool.Decides.{nat_tests}
 use Rattle.std.proofs.lemmas.List.{append-nil}
-use Rattle.qd_line.specs.Lines.{is_one_line, without_cr}
+use Rattle.qd_line.specs.Lines.{is_one_line}
 use Rattle.qd_line.proofs.Feeds.{and_left, and_right}
 use Rattle.qd_text.specs.SchemeLines.{SchemeText}
 use Rattle.qd_scheme_file.specs.declared.no_scheme.NoScheme.{NoScheme}

@@ -1,15 +1,13 @@
 -- What the small steps of reading a scheme file do.
 use Rattle.std.specs.Prelude.{ℕ, zero, suc, ◌+◌, ◌≡◌, ◌≤◌, ◌<◌, ◌^◌, List, [], ◌∷◌, ◌++◌, length, Option, Result, Ok, Err}
-use Rattle.qd_grammar.specs.declared.fault.Fault.{Fault}
 use Rattle.qd_line.specs.Held.{Held}
 use Rattle.qd_outside.specs.Reading.{Took, IsSpent}
-use Rattle.qd_scheme.specs.declared.defs.RecordDef.{RecordDef}
 use Rattle.qd_text.specs.SchemeLines.{SchemeText}
 use Rattle.qd_text.specs.declared.scheme_reader.SchemeEnd.{SchemeEnd}
 use Rattle.qd_text.specs.declared.scheme_reader.SchemeEnd.TheVariants as ends
 use Rattle.qd_scheme_file.specs.declared.no_scheme.NoScheme.{NoScheme}
 use Rattle.qd_scheme_file.specs.declared.no_scheme.NoScheme.TheVariants.{Bad, Wrong, LineTooLong, TooMuch, ReadFault, NoMemory}
-use Rattle.qd_scheme_file.specs.Told.{read_on, begun, with_said}
+use Rattle.qd_scheme_file.specs.Told.{read_on, begun}
 use Rattle.qd_scheme_file.specs.Ends.{Ends, Cause}
 
 abbrev pub no_scheme : SchemeEnd → NoScheme

@@ -1,19 +1,18 @@
 -- What each step leaves of the agreement between a stripe's table and what its agents are owed.
-use Rattle.std.proofs.Common.{◌≡◌, ℕ, ◌<◌, Bool, true, false, ◌||◌, ◌&&◌, not, if◌then◌else◌, nat_eq, List, [], ◌∷◌, length, drop, refl, ap, sym, ◌∙◌, subst, arith, ◌⊎◌, inl, inr}
-use Rattle.std.specs.Prelude.{Option, Some, None, is_some, MatchBool, slice_get}
+use Rattle.std.proofs.Common.{◌≡◌, ℕ, ◌<◌, Bool, true, false, ◌||◌, ◌&&◌, if◌then◌else◌, nat_eq, List, [], ◌∷◌, length, refl, ap, sym, ◌∙◌, subst, ◌⊎◌, inl, inr}
+use Rattle.std.specs.Prelude.{Option, Some, None, MatchBool}
 use Rattle.std.proofs.lemmas.Bool.{eqb-true}
 use Rattle.qd_scheme.specs.declared.key.Key.{Key}
 use Rattle.qd_scheme.specs.Keys.{key_eq}
-use Rattle.qd_scheme.proofs.KeyLaws.{key_eq-true, key_eq-same, key_eq-comm}
+use Rattle.qd_scheme.proofs.KeyLaws.{key_eq-true, key_eq-same}
 use Rattle.qd_sub.specs.Acts.{Subscribed, Unsubscribed, Closed, Came, Gave, is_pair}
 use Rattle.qd_sub.specs.Subscriptions.{subscribed}
-use Rattle.qd_sub.proofs.SinceLaws.{same_number}
 use Rattle.qd_slots.specs.Holds.{is_subscribed}
 use Rattle.qd_table.specs.Tables.{Table, key_at, slot_for, hold_for, holds_by}
 use Rattle.qd_table.specs.Sound.{IsSound}
 use Rattle.qd_table.specs.Standing.{StandsFor}
 use Rattle.qd_table.specs.Steps.{IsSame, IsSubscribed, IsEnded, IsLetGo, KeepsUsed, TellsAll}
-use Rattle.qd_table.proofs.TableLaws.{or-right, true-false, some-none, some-same, some-from, key_at-found, apart-numbers}
+use Rattle.qd_table.proofs.TableLaws.{or-right, true-false, some-none, some-same, some-from, key_at-found}
 use Rattle.qd_table.proofs.StandLaws.{holds_by-none, subscribed-table}
 use Rattle.qd_table.proofs.StandSteps.{stands-subscribed, stands-ended}
 use Rattle.qd_table.proofs.StandOthers.{stands-let_go, stands-same, stands-keeps, stands-came, stands-gave, stands-closed}
@@ -21,13 +20,13 @@ use Rattle.qd_stream.specs.declared.item.StreamItem.{StreamItem}
 use Rattle.qd_stream.specs.declared.outbox.Waiting.{Waiting}
 use Rattle.qd_stream.specs.Items.{key_of_item}
 use Rattle.qd_stream.specs.Waiting.{StreamMoment}
-use Rattle.qd_stream.specs.Owed.{Owed, owes}
+use Rattle.qd_stream.specs.Owed.{owes}
 use Rattle.qd_stream.specs.Outboxes.{Outstanding, with_waiting, owes_slot}
 use Rattle.qd_stream.specs.Keyed.{keyed, IsNamed, IsLabelled}
 use Rattle.qd_stream.specs.Boxes.{Boxes, box_at, with_box}
-use Rattle.qd_stream.specs.Stripes.{Shown, key_or, name_in, is_named, owed_in, is_owed_in, Agrees}
-use Rattle.qd_stream.specs.Steps.{IsEndedAt, IsPushed, IsSettled}
-use Rattle.qd_stream.proofs.NamedLaws.{owes-used, owes-named, owes-found, owes-agree, waiting-owes, named-waiting, apart-table, name-is, renamed}
+use Rattle.qd_stream.specs.Stripes.{Shown, name_in, is_named, owed_in, is_owed_in, Agrees}
+use Rattle.qd_stream.specs.Steps.{IsPushed, IsSettled}
+use Rattle.qd_stream.proofs.NamedLaws.{owes-used, owes-named, owes-agree, waiting-owes, named-waiting, name-is, renamed}
 use Rattle.qd_stream.proofs.ReadyLaws.{box-same, box-other}
 
 -- a stripe with this table and these outboxes

@@ -1,12 +1,12 @@
 -- The order by positions, where a fact begins only with an act about the one of which it holds, and may end at any act.
-use Rattle.std.proofs.Common.{◌≡◌, ℕ, suc, Bool, true, false, ◌&&◌, ◌||◌, not, if◌then◌else◌, nat_eq, List, [], ◌∷◌, ◌++◌, length, refl, ap, sym, ◌∙◌}
+use Rattle.std.proofs.Common.{◌≡◌, suc, Bool, true, false, ◌&&◌, ◌||◌, not, if◌then◌else◌, nat_eq, List, [], ◌∷◌, ◌++◌, length, refl, ap, sym, ◌∙◌}
 use Rattle.std.specs.Prelude.{Option, Some, None}
 use Rattle.std.specs.List.{filter, list_any}
 use Rattle.std.proofs.lemmas.List.{append-nil}
 use Rattle.std.proofs.lemmas.List.Folds.{list_any-append}
-use Rattle.std.proofs.Math.Bool.{and-true, or-false}
+use Rattle.std.proofs.Math.Bool.{or-false}
 use Rattle.qd_sub.specs.Since.{since, unbroken, begun_at, begun_within, by_since}
-use Rattle.qd_sub.proofs.SinceLaws.{by_since-step, by_since-holds}
+use Rattle.qd_sub.proofs.SinceLaws.{by_since-step}
 use Rattle.qd_sub.proofs.OrderLaws.{is_about, any-filter, any-one, once, once-filter, once-end}
 use Rattle.qd_sub.proofs.OrderSteps.{begins-at}
 

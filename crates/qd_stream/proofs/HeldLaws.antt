@@ -1,5 +1,5 @@
 -- The pairs and the keys that a stream holds: each is in its list once, where each item was put for its own key.
-use Rattle.std.proofs.Common.{◌≡◌, ℕ, suc, zero, ◌+◌, ◌-◌, ◌≤◌, Bool, true, false, ◌&&◌, ◌||◌, not, if◌then◌else◌, nat_eq, nat_lt, List, [], ◌∷◌, ◌++◌, length, drop, refl, ap, sym, ◌∙◌, subst, arith, ◌⊎◌, inl, inr, length-append, length-drop}
+use Rattle.std.proofs.Common.{◌≡◌, ℕ, suc, zero, ◌+◌, ◌-◌, ◌≤◌, Bool, true, false, ◌&&◌, ◌||◌, not, if◌then◌else◌, nat_eq, nat_lt, List, [], ◌∷◌, ◌++◌, length, drop, refl, ap, sym, ◌∙◌, subst, arith, ◌⊎◌, inl, inr}
 use Rattle.std.specs.Prelude.{Option, Some, None, is_some, slice_get}
 use Rattle.std.specs.List.{filter, list_any}
 use Rattle.std.specs.Option.{option_to_list}
@@ -7,17 +7,17 @@ use Rattle.std.proofs.lemmas.Bool.Decides.{nat_tests}
 use Rattle.std.proofs.lemmas.List.Folds.{list_any-append}
 use Rattle.qd_scheme.specs.declared.key.Key.{Key}
 use Rattle.qd_scheme.specs.Keys.{key_eq}
-use Rattle.qd_scheme.proofs.KeyLaws.{key_eq-same, key_eq-true, key_eq-comm}
+use Rattle.qd_scheme.proofs.KeyLaws.{key_eq-true, key_eq-comm}
 use Rattle.qd_sub.specs.Acts.{Act, Subscribed, Unsubscribed, Closed, Came, Gave, Told, Full, is_pair, newest_key}
 use Rattle.qd_sub.specs.Subscriptions.{limit_of, subscribed, agents}
 use Rattle.qd_sub.specs.Watching.{known}
 use Rattle.qd_sub.specs.Holding.{watchers, newest_pair, has_key}
-use Rattle.qd_sub.proofs.SinceLaws.{same_number, and-right}
+use Rattle.qd_sub.proofs.SinceLaws.{and-right}
 use Rattle.qd_sub.proofs.SubscriptionLaws.{subscribed-sub, subscribed-unsub, subscribed-closed, subscribed-came, subscribed-gave}
 use Rattle.qd_sub.proofs.StepLaws.{subscribed-told, subscribed-full, subscribed-empty, pair_eq, pair_eq-true, pair_eq-comm}
 use Rattle.qd_sub.proofs.HeldLaws.{known-about}
 use Rattle.qd_sub.proofs.OrderLaws.{is_about, once}
-use Rattle.qd_table.proofs.TableLaws.{or-left, or-right, or-cases, same-truth, true-false}
+use Rattle.qd_table.proofs.TableLaws.{or-left, or-right, or-cases, true-false}
 use Rattle.qd_stream.specs.declared.item.StreamItem.{StreamItem}
 use Rattle.qd_stream.specs.Items.{key_of_item}
 use Rattle.qd_stream.specs.Waiting.{StreamMoment, matched, Gone, none_gone, after_match, after_gift, gone, waiting}

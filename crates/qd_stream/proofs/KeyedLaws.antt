@@ -1,13 +1,12 @@
 -- What the calls of an outbox do to what is owed by keys.
-use Rattle.std.proofs.Common.{◌≡◌, ℕ, ◌+◌, ◌≤◌, Bool, true, false, ◌||◌, if◌then◌else◌, nat_eq, nat_lt, List, [], ◌∷◌, ◌++◌, length, map, drop, refl, ap, sym, ◌∙◌, subst, arith}
+use Rattle.std.proofs.Common.{◌≡◌, ℕ, ◌+◌, ◌≤◌, Bool, true, false, ◌||◌, if◌then◌else◌, nat_eq, nat_lt, List, [], ◌∷◌, ◌++◌, length, map, drop, refl, ap, sym, ◌∙◌, arith}
 use Rattle.std.specs.Prelude.{min, All}
-use Rattle.std.proofs.lemmas.List.Elements.{All-head, All-tail, All-cons, All-push}
+use Rattle.std.proofs.lemmas.List.Elements.{All-head, All-tail, All-push}
 use Rattle.qd_scheme.specs.declared.key.Key.{Key}
 use Rattle.qd_scheme.specs.Keys.{key_eq}
-use Rattle.qd_stream.specs.declared.item.StreamItem.{StreamItem}
 use Rattle.qd_stream.specs.declared.outbox.Waiting.{Waiting}
 use Rattle.qd_stream.specs.declared.outbox.SlotLoss.{SlotLoss}
-use Rattle.qd_stream.specs.Items.{key_of_item, weight}
+use Rattle.qd_stream.specs.Items.{weight}
 use Rattle.qd_stream.specs.Owed.{Loss, Owed, is_lost, raised, with_loss, with_first_lost, with_item}
 use Rattle.qd_stream.specs.Outboxes as boxes
 use Rattle.qd_stream.specs.Outboxes.{Outstanding, has_lost, with_lost, with_waiting}

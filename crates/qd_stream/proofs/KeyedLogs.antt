@@ -1,12 +1,11 @@
 -- In the moment after a log each item was put for its own key.
-use Rattle.std.proofs.Common.{◌≡◌, ℕ, Bool, true, false, if◌then◌else◌, List, [], ◌∷◌, ◌++◌, map, refl}
+use Rattle.std.proofs.Common.{◌≡◌, ℕ, true, false, if◌then◌else◌, List, [], ◌∷◌, ◌++◌, map, refl}
 use Rattle.qd_scheme.specs.declared.key.Key.{Key}
-use Rattle.qd_gate.specs.declared.machine.Entry.{Entry}
 use Rattle.qd_sub.specs.declared.sub.Sub.{Sub}
 use Rattle.qd_sub.specs.declared.sub.Want.{Want}
 use Rattle.qd_sub.specs.declared.op.Op.TheVariants.{Add, Remove, Close, Put, Take, Watch}
 use Rattle.qd_sub.specs.declared.op.Reply.TheVariants.{Done, Items, Wants, TooManyKeys, TooManySubs, NoMemory}
-use Rattle.qd_sub.specs.Acts.{Act, Subscribed, Unsubscribed, Closed, Came, Gave, Told}
+use Rattle.qd_sub.specs.Acts.{Subscribed, Unsubscribed, Closed, Came, Gave, Told}
 use Rattle.qd_sub.specs.Subscriptions.{subscribed, keys_of}
 use Rattle.qd_sub.specs.Logs.{after, ends_of, after_entry, after_log}
 use Rattle.qd_stream.specs.declared.item.StreamItem.{StreamItem}

@@ -1,18 +1,17 @@
 -- What is owed by slots and by keys, where slots have the keys of a table.
-use Rattle.std.proofs.Common.{◌≡◌, ℕ, suc, ◌+◌, ◌≤◌, Bool, true, false, ◌||◌, ◌&&◌, not, if◌then◌else◌, nat_eq, nat_lt, List, [], ◌∷◌, ◌++◌, length, map, drop, refl, ap, sym, ◌∙◌, subst, arith, ◌⊎◌, inl, inr}
-use Rattle.std.specs.Prelude.{min, All, Option, Some, None, is_some}
+use Rattle.std.proofs.Common.{◌≡◌, ℕ, ◌+◌, ◌≤◌, Bool, true, false, ◌||◌, ◌&&◌, if◌then◌else◌, nat_eq, nat_lt, List, [], ◌∷◌, ◌++◌, length, map, drop, refl, ap, sym, ◌∙◌, ◌⊎◌, inl, inr}
+use Rattle.std.specs.Prelude.{min, All, Option, Some, is_some}
 use Rattle.std.specs.List.{list_any}
 use Rattle.std.proofs.lemmas.Bool.{eqb-true}
 use Rattle.std.proofs.lemmas.List.Elements.{All-nil, All-head, All-tail, All-cons, All-push, All-drop}
 use Rattle.std.proofs.lemmas.List.Folds.{list_any-append}
 use Rattle.qd_scheme.specs.declared.key.Key.{Key}
 use Rattle.qd_scheme.specs.Keys.{key_eq}
-use Rattle.qd_scheme.proofs.KeyLaws.{key_eq-same, key_eq-true, key_eq-comm}
+use Rattle.qd_scheme.proofs.KeyLaws.{key_eq-same, key_eq-true}
 use Rattle.qd_sub.proofs.SinceLaws.{same_number}
 use Rattle.qd_table.specs.Tables.{Table, key_at, slot_for}
 use Rattle.qd_table.specs.Sound.{IsSound}
-use Rattle.qd_table.proofs.TableLaws.{or-left, or-right, or-cases, same-truth, true-false, some-none, some-same, some-from}
-use Rattle.qd_stream.specs.declared.item.StreamItem.{StreamItem}
+use Rattle.qd_table.proofs.TableLaws.{or-left, or-right, or-cases, same-truth, true-false, some-same, some-from}
 use Rattle.qd_stream.specs.declared.outbox.Waiting.{Waiting}
 use Rattle.qd_stream.specs.declared.outbox.SlotLoss.{SlotLoss}
 use Rattle.qd_stream.specs.Items.{key_of_item, weight}

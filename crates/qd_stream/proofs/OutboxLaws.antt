@@ -1,6 +1,6 @@
 -- What the calls of an outbox do to its counts and its losses.
 use Rattle.std.proofs.Common.{◌≡◌, ℕ, suc, zero, ◌+◌, ◌-◌, ◌<◌, ◌≤◌, Bool, true, false, ◌||◌, if◌then◌else◌, nat_eq, nat_lt, List, [], ◌∷◌, ◌++◌, length, map, replicate, refl, ap, sym, ◌∙◌, subst, arith, length-set, length-append}
-use Rattle.std.specs.Prelude.{min, slice_index, slice_set, slice_get, Option, Some, None, drop}
+use Rattle.std.specs.Prelude.{min, slice_index, slice_set, slice_get, Some, None, drop}
 use Rattle.std.proofs.Math.Nat.{min-eq_left}
 use Rattle.std.proofs.lemmas.Bool.Decides.{nat_tests}
 use Rattle.std.proofs.lemmas.Bool.{eqb-true}

@@ -5,21 +5,20 @@ use Rattle.std.specs.Option.{option_to_list}
 use Rattle.std.specs.List.{list_any}
 use Rattle.std.proofs.lemmas.List.{append-nil, drop-append-le}
 use Rattle.qd_scheme.specs.declared.key.Key.{Key}
-use Rattle.qd_scheme.specs.Keys.{key_eq}
-use Rattle.qd_sub.specs.Acts.{Act, Subscribed, Unsubscribed, Closed, Came, Gave, Told, Full}
+use Rattle.qd_sub.specs.Acts.{Act, Subscribed, Unsubscribed, Closed, Came, Gave}
 use Rattle.qd_sub.specs.Subscriptions.{subscribed}
 use Rattle.qd_sub.specs.Logs.{after}
 use Rattle.qd_sub.specs.Holding.{fresh}
 use Rattle.qd_sub.proofs.SinceLaws.{same_number}
 use Rattle.qd_stream.specs.declared.item.StreamItem.{StreamItem}
-use Rattle.qd_stream.specs.declared.item.StreamItem.TheVariants.{Rec, Lost}
-use Rattle.qd_stream.specs.Items.{key_of_item, weight}
-use Rattle.qd_stream.specs.Waiting.{StreamMoment, matched, Gone, none_gone, after_match, after_gift, gone, waiting}
+use Rattle.qd_stream.specs.declared.item.StreamItem.TheVariants.{Lost}
+use Rattle.qd_stream.specs.Items.{key_of_item}
+use Rattle.qd_stream.specs.Waiting.{StreamMoment, matched, Gone, after_match, after_gift, gone, waiting}
 use Rattle.qd_stream.specs.Losses.{weight_of, loss_of, lossy_keys}
 use Rattle.qd_stream.specs.Taking.{reports, taken}
 use Rattle.qd_stream.specs.Holding.{is_owed}
-use Rattle.qd_stream.specs.Owed.{Loss, Owed, nothing, losses, owed_at, is_lost, with_loss, with_first_lost, with_item, report, first_owed, after_first, owes, IsOwed}
-use Rattle.qd_stream.proofs.LossLaws.{is_of, others, lost_but, losses-end, losses-others, losses-first, is_lost-losses}
+use Rattle.qd_stream.specs.Owed.{Loss, Owed, nothing, losses, owed_at, with_first_lost, with_item, report, first_owed, after_first, owes, IsOwed}
+use Rattle.qd_stream.proofs.LossLaws.{is_of, lost_but, losses-end, losses-others, losses-first, is_lost-losses}
 use Rattle.qd_stream.proofs.WaitingLaws.{few-gone, drop-none, drop-twice, within-match, came-fits, came-over}
 
 module _ (cap a : ℕ) where

@@ -1,17 +1,16 @@
 -- What each step leaves of the room for what comes for each subscription.
 use Rattle.std.proofs.Common.{◌≡◌, ℕ, ◌<◌, ◌≤◌, Bool, true, false, ◌&&◌, nat_eq, nat_lt, if◌then◌else◌, List, [], ◌∷◌, ◌++◌, length, drop, refl, ap, sym, ◌∙◌, subst, arith, length-set, ◌⊎◌, inl, inr}
-use Rattle.std.specs.Prelude.{MatchBool, max, slice_set, slice_index_or}
+use Rattle.std.specs.Prelude.{max}
 use Rattle.std.proofs.lemmas.Bool.{eqb-true}
 use Rattle.std.proofs.lemmas.List.{get_or-set_same, get_or-set_other}
 use Rattle.qd_scheme.specs.declared.key.Key.{Key}
 use Rattle.qd_sub.proofs.SinceLaws.{same_number}
-use Rattle.qd_slots.specs.declared.holds.Hold.{Hold}
-use Rattle.qd_slots.specs.declared.holds.Hold.TheVariants.{Free, Kept, Subscribed}
+use Rattle.qd_slots.specs.declared.holds.Hold.TheVariants.{Free, Subscribed}
 use Rattle.qd_slots.specs.Holds.{is_subscribed, is_kept, after_end}
 use Rattle.qd_table.specs.Tables.{Table, slots_in, hold_for}
-use Rattle.qd_table.specs.Steps.{is_cell, IsSame, IsSubscribed, IsEnded, IsLetGo, IsTold, TellsAll}
+use Rattle.qd_table.specs.Steps.{is_cell, IsSame, IsEnded, IsLetGo, TellsAll}
 use Rattle.qd_stream.specs.declared.outbox.Waiting.{Waiting}
-use Rattle.qd_stream.specs.Outboxes.{Outstanding, with_waiting, with_first_lost, owes_slot}
+use Rattle.qd_stream.specs.Outboxes.{Outstanding, with_waiting, with_first_lost}
 use Rattle.qd_stream.specs.Boxes.{Boxes, box_at, with_box, with_slots}
 use Rattle.qd_stream.specs.Stripes.{Shown, IsReady}
 use Rattle.qd_stream.specs.Steps.{SubscribesAll, IsPushed}

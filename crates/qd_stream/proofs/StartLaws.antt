@@ -1,7 +1,6 @@
 -- A new stripe stands for the empty log.
-use Rattle.std.proofs.Common.{◌≡◌, ℕ, suc, zero, ◌<◌, Bool, true, false, ◌||◌, List, [], ◌∷◌, length, map, replicate, refl, ap, sym, ◌∙◌, subst, arith, get_or}
+use Rattle.std.proofs.Common.{◌≡◌, ℕ, suc, zero, ◌<◌, true, false, ◌||◌, [], ◌∷◌, replicate, refl, ap, sym, ◌∙◌, subst, get_or}
 use Rattle.std.proofs.lemmas.List.{length-replicate}
-use Rattle.qd_scheme.specs.declared.key.Key.{Key}
 use Rattle.qd_sub.specs.Logs.{after_log}
 use Rattle.qd_sub.specs.Subscriptions.{subscribed}
 use Rattle.qd_slots.specs.Holds.{is_subscribed}
@@ -14,7 +13,7 @@ use Rattle.qd_stream.specs.Outboxes.{Outstanding, empty_for}
 use Rattle.qd_stream.specs.Keyed.{keyed, IsNamed}
 use Rattle.qd_stream.specs.Boxes.{Boxes, box_at, empty_boxes}
 use Rattle.qd_stream.specs.Legal.{moment_of}
-use Rattle.qd_stream.specs.Stripes.{Shown, name_in, is_named, owed_in, is_owed_in, Agrees, StandsAt, Stands, IsReady}
+use Rattle.qd_stream.specs.Stripes.{Shown, name_in, is_named, owed_in, is_owed_in, StandsAt, Stands, IsReady}
 use Rattle.qd_stream.proofs.OwedLaws.{owed-empty}
 use Rattle.qd_stream.proofs.NamedLaws.{named-empty, apart-table}
 use Rattle.qd_stream.proofs.AgreeLaws.{of}

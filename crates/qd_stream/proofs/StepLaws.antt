@@ -1,36 +1,28 @@
 -- Each step leads from a legal log for which a stripe stands to a legal log for which it stands.
-use Rattle.std.proofs.Common.{◌≡◌, ℕ, suc, zero, ◌<◌, Bool, true, false, ◌||◌, ◌&&◌, not, if◌then◌else◌, nat_eq, nat_lt, List, [], ◌∷◌, ◌++◌, length, length-set, map, take, replicate, refl, ap, sym, ◌∙◌, subst, arith, ◌⊎◌, inl, inr, append_assoc}
+use Rattle.std.proofs.Common.{◌≡◌, ℕ, suc, zero, ◌<◌, Bool, true, false, ◌||◌, ◌&&◌, if◌then◌else◌, nat_eq, List, [], ◌∷◌, ◌++◌, length, length-set, map, take, refl, ap, sym, ◌∙◌, subst, arith, ◌⊎◌, inl, inr}
 use Rattle.std.specs.Prelude.{Option, Some, None, is_some, max, MatchBool}
-use Rattle.std.specs.List.{filter, filter_map, cons_option}
+use Rattle.std.specs.List.{filter_map, cons_option}
 use Rattle.std.proofs.lemmas.Bool.Decides.{nat_tests}
-use Rattle.std.proofs.lemmas.List.{get_or-replicate, length-replicate}
 use Rattle.qd_scheme.specs.declared.key.Key.{Key}
-use Rattle.qd_scheme.specs.Keys.{key_eq}
-use Rattle.qd_scheme.proofs.KeyLaws.{key_eq-same}
 use Rattle.qd_buffer.specs.Filled.{Filled, with_items}
-use Rattle.qd_gate.specs.declared.machine.Entry.{Entry}
-use Rattle.qd_gate.specs.declared.machine.Terms.{Terms}
-use Rattle.qd_gate.specs.Logs.{entry, EachFollows}
+use Rattle.qd_gate.specs.Logs.{entry}
 use Rattle.qd_gate.proofs.Laws.{each_follows_push}
 use Rattle.qd_pend.specs.Slots.{first_in}
 use Rattle.qd_sub.specs.declared.sub.Sub.{Sub}
 use Rattle.qd_sub.specs.declared.sub.Want.{Want}
 use Rattle.qd_sub.specs.declared.op.Op.TheVariants.{Add, Remove, Close, Put, Take, Watch}
-use Rattle.qd_sub.specs.declared.op.Reply.TheVariants.{Done, Items, Wants, TooManyKeys, TooManySubs, NoMemory}
+use Rattle.qd_sub.specs.declared.op.Reply.TheVariants.{Items, Wants, TooManyKeys, TooManySubs, NoMemory}
 use Rattle.qd_sub.specs.Acts.{Act, Subscribed, Unsubscribed, Closed, Came, Gave, Told}
 use Rattle.qd_sub.specs.Subscriptions.{subscribed, keys_of}
 use Rattle.qd_sub.specs.Watching.{watched}
-use Rattle.qd_sub.specs.Holding.{has_key, fresh}
 use Rattle.qd_sub.specs.Logs.{after, ends_of, after_entry, after_log}
-use Rattle.qd_sub.proofs.SinceLaws.{same_number, and-left}
 use Rattle.qd_sub.proofs.LogLaws.{after_log-push}
-use Rattle.qd_sub.proofs.StepLaws.{keys_of-unsub, keys_of-once}
-use Rattle.qd_sub.proofs.OrderLaws.{once}
+use Rattle.qd_sub.proofs.KeyEnds.{keys-rest}
 use Rattle.qd_slots.specs.Holds.{is_subscribed}
 use Rattle.qd_table.specs.declared.table.SubFault.{SubFault}
 use Rattle.qd_table.specs.declared.table.SubFault.TheVariants as faults
-use Rattle.qd_table.specs.Tables.{Table, no_table, slots_in, holds_by, key_at, slot_for, hold_for, order_of, keys_at, queue_of, wants_for, fault_of}
-use Rattle.qd_table.proofs.TableLaws.{key_at-found, key_at-subscribed, true-false}
+use Rattle.qd_table.specs.Tables.{Table, slots_in, holds_by, key_at, slot_for, hold_for, order_of, keys_at, queue_of, fault_of}
+use Rattle.qd_table.proofs.TableLaws.{key_at-found, key_at-subscribed}
 use Rattle.qd_table.specs.Steps.{IsSame, TellsAll}
 use Rattle.qd_table.proofs.StandLaws.{subscribed-table, subscribed-absent, watched-table}
 use Rattle.qd_table.proofs.StandOthers.{stands-keeps}
@@ -39,17 +31,15 @@ use Rattle.qd_table.proofs.TableCounts.{key-holder, fault-table}
 use Rattle.qd_stream.specs.declared.item.StreamItem.{StreamItem}
 use Rattle.qd_stream.specs.Items.{key_of_item}
 use Rattle.qd_stream.specs.Waiting.{StreamMoment, matched, gone, waiting}
-use Rattle.qd_stream.specs.Taking.{taken}
-use Rattle.qd_stream.specs.Holding.{is_owed, holds_pair, held, held_keys, held_pairs, held_by}
+use Rattle.qd_stream.specs.Holding.{holds_pair, held, held_keys, held_pairs, held_by}
 use Rattle.qd_stream.specs.Owed.{Owed, nothing, owes, first_owed, owed_at, IsOwed}
 use Rattle.qd_stream.specs.Outboxes.{Outstanding}
 use Rattle.qd_stream.specs.Keyed.{keyed, IsNamed}
-use Rattle.qd_stream.specs.Boxes.{Boxes, box_at, with_box, with_slots, empty_boxes}
+use Rattle.qd_stream.specs.Boxes.{box_at, with_box, with_slots}
 use Rattle.qd_stream.specs.Legal.{StreamOp, StreamReply, StreamEntry, terms_of, stream_acts, moment_of, too_many_keys, too_many_subs, reply_to, IsLawful, Follows, IsLegal}
 use Rattle.qd_stream.specs.Stripes.{Shown, name_in, is_named, owed_in, is_owed_in, Agrees, StandsAt, Stands}
-use Rattle.qd_stream.specs.Steps.{SubscribesAll, IsAdded, IsRefused, AddsBy, Adds, IsEndedAt, RemovesAt, RemovesAll, PutsAt, PutsAll, Gives, GivesAll, DropsAll, EndsAll, IsClosed, StepsTo}
+use Rattle.qd_stream.specs.Steps.{SubscribesAll, IsAdded, IsRefused, AddsBy, Adds, IsEndedAt, RemovesAt, RemovesAll, PutsAll, GivesAll, DropsAll, EndsAll, IsClosed, StepsTo}
 use Rattle.qd_stream.proofs.OwedLaws.{owed-closed, owed-closed_other, taken-owed, is_owed-owes}
-use Rattle.qd_table.proofs.FreshLaws.{but-alone}
 use Rattle.qd_stream.proofs.NamedLaws.{named-room}
 use Rattle.qd_stream.proofs.ReadyLaws.{box-same, box-other}
 use Rattle.qd_stream.proofs.AgreeLaws.{of, agrees-closed, agrees-same, same-by, renamed-all, loses-told}
@@ -175,23 +165,8 @@ no-order : (order : List ℕ) → first_in order ≡ None → order ≡ []
 no-order [] h = refl
 no-order (x ∷ xs) h = cc
 
-without-first : (k : Key) (rest : List Key) → once key_eq (k ∷ rest) ≡ true → filter (λ j. not (key_eq k j)) (k ∷ rest) ≡ rest
-unfolding once
-without-first k rest single =
-    let out : has_key rest k ≡ false = not-true (has_key rest k) (and-left (not (has_key rest k)) (once key_eq rest) single) in
-    rw (key_eq-same k) (but-alone k rest out)
-  where
-    not-true : (b : Bool) → not b ≡ true → b ≡ false
-    not-true true h = sym h
-    not-true false h = refl
-
 keys-ended : (a : ℕ) (k : Key) (rest : List Key) (now : StreamMoment) → keys_of a now ≡ k ∷ rest → keys_of a now ≡ k ∷ keys_of a (Unsubscribed a k ∷ now)
-keys-ended a k rest now h =
-    let single : once key_eq (k ∷ rest) ≡ true = sym (ap (once key_eq) h) ∙ keys_of-once a now in
-    let left : keys_of a (Unsubscribed a k ∷ now) ≡ rest =
-    keys_of-unsub a a k now ∙ ap (λ c. if c then filter (λ j. not (key_eq k j)) (keys_of a now) else keys_of a now) (same_number a)
-    ∙ ap (filter (λ j. not (key_eq k j))) h ∙ without-first k rest single in
-    h ∙ ap (λ ks. k ∷ ks) (sym left)
+keys-ended a k rest now h = h ∙ ap (λ ks. k ∷ ks) (sym (keys-rest a k rest now h))
 
 nowhere : (t : Table) → keys_at t [] ≡ []
 unfolding keys_at

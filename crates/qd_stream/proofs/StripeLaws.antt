@@ -1,11 +1,11 @@
 -- What each act of a log does to the past that a stripe stands for.
-use Rattle.std.proofs.Common.{◌≡◌, ℕ, suc, zero, ◌<◌, ◌≤◌, ◌-◌, Bool, true, false, ◌||◌, ◌&&◌, not, if◌then◌else◌, nat_eq, List, [], ◌∷◌, ◌++◌, length, map, drop, take, refl, ap, sym, ◌∙◌, subst, arith, length-set, ◌⊎◌, inl, inr}
-use Rattle.std.specs.Prelude.{Option, Some, None, MatchBool, slice_get}
+use Rattle.std.proofs.Common.{◌≡◌, ℕ, suc, zero, ◌<◌, ◌≤◌, ◌-◌, Bool, true, false, ◌||◌, ◌&&◌, if◌then◌else◌, nat_eq, List, [], ◌∷◌, ◌++◌, length, map, drop, take, refl, ap, sym, ◌∙◌, subst, arith, length-set, ◌⊎◌, inl, inr}
+use Rattle.std.specs.Prelude.{Option, Some, None, slice_get}
 use Rattle.std.specs.Option.{option_map}
 use Rattle.std.proofs.lemmas.Bool.{eqb-true}
 use Rattle.std.proofs.Math.ListN.{get_or}
 use Rattle.qd_scheme.specs.declared.key.Key.{Key}
-use Rattle.qd_sub.specs.Acts.{Act, Subscribed, Unsubscribed, Closed, Came, Gave}
+use Rattle.qd_sub.specs.Acts.{Subscribed, Unsubscribed, Came, Gave}
 use Rattle.qd_sub.specs.Subscriptions.{subscribed}
 use Rattle.qd_sub.specs.Logs.{after}
 use Rattle.qd_sub.proofs.SinceLaws.{same_number}
@@ -15,24 +15,24 @@ use Rattle.qd_table.specs.Steps.{IsSubscribed}
 use Rattle.qd_table.proofs.TableLaws.{or-left, or-right, true-false, some-none, some-from, key_at-found}
 use Rattle.qd_table.proofs.StandLaws.{subscribed-table, subscribed-absent}
 use Rattle.qd_stream.specs.declared.item.StreamItem.{StreamItem}
-use Rattle.qd_stream.specs.declared.item.StreamItem.TheVariants.{Rec, Lost}
+use Rattle.qd_stream.specs.declared.item.StreamItem.TheVariants.{Lost}
 use Rattle.qd_stream.specs.declared.outbox.Waiting.{Waiting}
 use Rattle.qd_stream.specs.declared.outbox.SlotLoss.{SlotLoss}
 use Rattle.qd_stream.specs.Items.{key_of_item}
 use Rattle.qd_stream.specs.Waiting.{StreamMoment}
 use Rattle.qd_stream.specs.Owed.{Loss, Owed, nothing, report, first_owed, IsOwed, with_item}
 use Rattle.qd_stream.specs.Outboxes as outboxes
-use Rattle.qd_stream.specs.Outboxes.{Outstanding, with_waiting, without_first_loss, first_of, first_loss, owes_slot, has_lost, has_waiting, empty_for}
+use Rattle.qd_stream.specs.Outboxes.{Outstanding, with_waiting, without_first_loss, first_of, owes_slot, has_lost, has_waiting, empty_for}
 use Rattle.qd_stream.specs.Keyed.{named, keyed, IsNamed, IsLabelled}
 use Rattle.qd_stream.specs.Boxes.{Boxes, box_at, with_box}
 use Rattle.qd_stream.specs.Stripes.{Shown, key_or, name_in, is_named, owed_in, Agrees, StandsAt}
 use Rattle.qd_stream.specs.Steps.{IsEndedAt, PutsAt, IsSettled, GivesItem, GivesFirst, Gives}
 use Rattle.qd_stream.proofs.OwedLaws.{owed-sub, owed-unsub, owed-came, owed-unmatched, owed-gave_other, owed-reported, owed-given}
-use Rattle.qd_stream.proofs.KeyedLaws.{keyed-waiting, keyed-reported, keyed-given}
+use Rattle.qd_stream.proofs.KeyedLaws.{keyed-waiting}
 use Rattle.qd_stream.proofs.NamedLaws.{owes-used, named-reported, named-given, name-is}
 use Rattle.qd_stream.proofs.BoxLaws.{waiting-cap}
 use Rattle.qd_stream.proofs.ReadyLaws.{box-same, box-other}
-use Rattle.qd_stream.proofs.AgreeLaws.{of, Same, Less, Settles, agrees-sub, agrees-end, agrees-came, agrees-gave, agrees-push, agrees-settle}
+use Rattle.qd_stream.proofs.AgreeLaws.{of, Less, Settles, agrees-sub, agrees-end, agrees-came, agrees-gave, agrees-push, agrees-settle}
 
 -- the same table and outboxes
 pub by-boxes : (new : Shown) (boxes : Boxes) → new.boxes ≡ boxes → of new.table boxes ≡ new

@@ -1,17 +1,13 @@
 -- What each act does to the items that wait for an agent, and to those that were dropped.
-use Rattle.std.proofs.Common.{◌≡◌, ℕ, suc, zero, ◌+◌, ◌-◌, ◌<◌, ◌≤◌, Bool, true, false, not, if◌then◌else◌, nat_eq, nat_lt, List, [], ◌∷◌, ◌++◌, length, drop, refl, ap, sym, ◌∙◌, arith, length-append, length-drop}
-use Rattle.std.specs.Prelude.{slice_get, Some}
-use Rattle.std.specs.List.{filter}
+use Rattle.std.proofs.Common.{◌≡◌, ℕ, suc, zero, ◌+◌, ◌-◌, ◌<◌, ◌≤◌, Bool, true, false, if◌then◌else◌, nat_eq, nat_lt, List, [], ◌∷◌, ◌++◌, length, drop, refl, ap, sym, ◌∙◌, arith, length-append, length-drop}
+use Rattle.std.specs.Prelude.{slice_get}
 use Rattle.std.specs.Option.{option_to_list}
 use Rattle.std.proofs.lemmas.Bool.Decides.{nat_tests}
 use Rattle.std.proofs.lemmas.List.{drop-append-le}
-use Rattle.std.proofs.lemmas.List.{append-nil}
 use Rattle.qd_scheme.specs.declared.key.Key.{Key}
-use Rattle.qd_scheme.specs.Keys.{key_eq}
 use Rattle.qd_sub.specs.Acts.{Subscribed, Unsubscribed, Closed, Came, Gave, Told, Full}
 use Rattle.qd_sub.specs.Subscriptions.{subscribed}
 use Rattle.qd_stream.specs.declared.item.StreamItem.{StreamItem}
-use Rattle.qd_stream.specs.Items.{key_of_item}
 use Rattle.qd_stream.specs.Waiting.{StreamMoment, matched, Gone, none_gone, after_match, after_gift, gone, waiting}
 
 lt-is : (m n : ℕ) (c : Bool) → nat_lt m n ≡ c → (c ≡ true → m < n) × (c ≡ false → n ≤ m)

@@ -1,5 +1,5 @@
 -- How what an outbox holds by slots is what an agent is owed by keys.
-use Rattle.std.specs.Prelude.{ℕ, ◌≡◌, Bool, true, nat_eq, List, map, All}
+use Rattle.std.specs.Prelude.{ℕ, ◌≡◌, Bool, true, nat_eq, map, All}
 use Rattle.qd_scheme.specs.declared.key.Key.{Key}
 use Rattle.qd_scheme.specs.Keys.{key_eq}
 use Rattle.qd_stream.specs.declared.outbox.Waiting.{Waiting}

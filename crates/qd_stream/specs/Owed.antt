@@ -1,6 +1,6 @@
 -- What a stream keeps for one agent.
 use Rattle.std.specs.Prelude.{ℕ, ◌≡◌, ◌≤◌, ◌+◌, ◌-◌, Bool, ◌||◌, not, min, nat_lt, if◌then◌else◌, List, [], ◌∷◌, ◌++◌, length, map, take, drop}
-use Rattle.std.specs.List.{filter, list_any}
+use Rattle.std.specs.List.{list_any}
 use Rattle.qd_scheme.specs.declared.key.Key.{Key}
 use Rattle.qd_scheme.specs.Keys.{key_eq}
 use Rattle.qd_sub.specs.Holding.{fresh}

@@ -1,5 +1,5 @@
 -- What the ops leave of what a stripe keeps.
-use Rattle.std.specs.Prelude.{ℕ, zero, suc, ◌≡◌, ◌<◌, ◌⊎◌, true, Bool, if◌then◌else◌, MatchBool, Option, Some, None, List, [], ◌∷◌, length, drop, map, take, slice_get}
+use Rattle.std.specs.Prelude.{ℕ, zero, suc, ◌≡◌, ◌<◌, ◌⊎◌, true, if◌then◌else◌, MatchBool, Option, Some, None, List, [], ◌∷◌, length, drop, map, take, slice_get}
 use Rattle.std.specs.Option.{option_map}
 use Rattle.qd_scheme.specs.declared.key.Key.{Key}
 use Rattle.qd_buffer.specs.Filled.{with_items}

@@ -6,7 +6,6 @@ use Rattle.qd_table.specs.Tables.{Table, key_at, hold_for}
 use Rattle.qd_table.specs.Standing.{StandsFor}
 use Rattle.qd_stream.specs.Waiting.{StreamMoment}
 use Rattle.qd_stream.specs.Owed.{Owed, owes, IsOwed}
-use Rattle.qd_stream.specs.Outboxes.{Outstanding}
 use Rattle.qd_stream.specs.Keyed.{keyed, IsNamed}
 use Rattle.qd_stream.specs.Boxes.{Boxes, box_at}
 use Rattle.qd_stream.specs.Legal.{StreamEntry, moment_of}

@@ -4,6 +4,7 @@ use Rattle.std.specs.List.{filter}
 use Rattle.qd_scheme.specs.declared.key.Key.{Key}
 use Rattle.qd_scheme.specs.Keys.{key_eq}
 use Rattle.qd_scheme.proofs.KeyLaws.{key_eq-same, key_eq-true, key_eq-comm}
+use Rattle.qd_sub.proofs.KeyEnds.{filter-alone}
 use Rattle.qd_sub.specs.Holding.{has_key, fresh}
 
 -- a key that is there already is not new
@@ -96,14 +97,7 @@ fresh-but k held other (j ∷ js) agree =
 
 -- taking out what is not there
 pub but-alone : (k : Key) (ks : List Key) → has_key ks k ≡ false → but k ks ≡ ks
-but-alone k [] h = refl
-but-alone k (j ∷ ks) h =
-    let go : (c : Bool) → key_eq k j ≡ c → but k (j ∷ ks) ≡ j ∷ ks =
-    elim [
-      | true ↦ λ e. let z = rw e at h in cc
-      | false ↦ λ e. rw e (ap (λ js. j ∷ js) (but-alone k ks (rw e at h)))
-    ] in
-    go (key_eq k j) refl
+but-alone k ks h = filter-alone ks k h
 
 -- the first of the distinct keys does not stand among the others
 pub fresh-first : (k : Key) (ks : List Key) → but k (fresh [] (k ∷ ks)) ≡ fresh (k ∷ []) ks

@@ -19,3 +19,4 @@ pub mod TableCounts
 pub mod StoreAdmits
 pub mod StoreShown
 pub mod NewLaws
+pub mod SlotKeys

@@ -1,7 +1,6 @@
 -- A table that is sound is so after each call.
 use Rattle.std.proofs.Common.{◌≡◌, ◌⊎◌, inl, inr, ℕ, ◌<◌, ◌≤◌, ◌+◌, ◌-◌, Bool, true, false, ◌&&◌, ◌||◌, not, if◌then◌else◌, nat_eq, Some, is_some, List, ◌∷◌, length, refl, ap, sym, ◌∙◌, arith, subst}
 use Rattle.std.specs.List.{list_any, filter}
-use Rattle.std.proofs.Math.Bool.{and-false}
 use Rattle.qd_scheme.specs.declared.key.Key.{Key}
 use Rattle.qd_sub.specs.Acts.{is_pair}
 use Rattle.qd_sub.specs.Subscriptions.{least}

@@ -1,7 +1,6 @@
 -- What is judged and reserved leaves a table as it was, with more room.
-use Rattle.std.proofs.Common.{◌≡◌, ◌⊎◌, inl, inr, ℕ, zero, suc, ◌+◌, ◌-◌, ◌^◌, ◌<◌, ◌≤◌, if◌then◌else◌, Option, Some, None, List, [], ◌∷◌, ◌++◌, length, slice_index, refl, ap, sym, ◌∙◌, arith, subst}
+use Rattle.std.proofs.Common.{◌≡◌, ◌⊎◌, inl, inr, ℕ, zero, suc, ◌+◌, ◌-◌, ◌^◌, ◌<◌, ◌≤◌, if◌then◌else◌, Some, None, List, ◌∷◌, ◌++◌, length, slice_index, refl, ap, sym, ◌∙◌, arith, subst}
 use Rattle.std.proofs.lemmas.List.{length-append, get_or_past, get_or_append_left, get_or-append_right}
-use Rattle.qd_scheme.specs.declared.key.Key.{Key}
 use Rattle.qd_pend.specs.Slots.{has}
 use Rattle.qd_slots.specs.declared.holds.Hold.TheVariants.{Free}
 use Rattle.qd_slots.specs.declared.holds.Cell.{Cell}

@@ -4,20 +4,20 @@ use Rattle.std.proofs.lemmas.Bool.Decides.{nat_tests}
 use Rattle.qd_scheme.specs.declared.key.Key.{Key}
 use Rattle.qd_scheme.specs.declared.key.Record.{Record}
 use Rattle.qd_scheme.specs.Keys.{key_eq}
-use Rattle.qd_scheme.proofs.KeyLaws.{key_eq-same, key_eq-true}
+use Rattle.qd_scheme.proofs.KeyLaws.{key_eq-true}
 use Rattle.qd_pend.specs.Slots.{has, without}
 use Rattle.qd_pend.proofs.ListLaws.{same, equal, without-absent}
-use Rattle.qd_sub.specs.Acts.{Act, Subscribed, Unsubscribed, Closed, Came, Gave, Told, is_pair}
+use Rattle.qd_sub.specs.Acts.{Subscribed, Unsubscribed, Closed, Came, Gave, Told, is_pair}
 use Rattle.qd_sub.specs.Subscriptions.{subscribed, wanted, kept}
-use Rattle.qd_sub.proofs.SubscriptionLaws.{subscribed-sub, subscribed-unsub, subscribed-came, kept-came_other, kept-came_same, kept-came_unwanted, kept-gave, kept-sub, kept-closed, kept-unsub_wanted, wanted-subscribed}
+use Rattle.qd_sub.proofs.SubscriptionLaws.{subscribed-sub, subscribed-came, kept-came_other, kept-came_same, kept-came_unwanted, kept-gave, kept-sub, kept-closed, kept-unsub_wanted, wanted-subscribed}
 use Rattle.qd_sub.proofs.StepLaws.{subscribed-told}
 use Rattle.qd_sub.proofs.WatchLaws.{wanted-told}
 use Rattle.qd_ticker.specs.Pending.{TickerMoment, last, last_record, has_items, pending}
 use Rattle.qd_ticker.specs.Kept.{with_slot, pending_name, last_name, IsKept}
 use Rattle.qd_ticker.proofs.PendingLaws.{same-pending, pending-unsubscribed, pending-came_other, pending-came_same, pending-gave_other, pending-gave_same, pending-sub_other, pending-sub_new, pending-unsub_same, pending-unsub_other, pending-closed, is_pair-same}
 use Rattle.qd_ticker.proofs.AboutLaws.{kept-same}
-use Rattle.qd_ticker.proofs.SlotLists.{IsApart}
-use Rattle.qd_ticker.proofs.KeptLaws.{IsMoved, kept-quiet, kept-moved, last_record-unwanted}
+use Rattle.qd_table.proofs.SlotKeys.{IsApart}
+use Rattle.qd_ticker.proofs.KeptLaws.{kept-quiet, kept-moved, last_record-unwanted}
 
 -- what is kept of a key
 abbrev items_kept : Key → TickerMoment → List Record

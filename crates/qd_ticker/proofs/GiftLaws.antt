@@ -1,44 +1,27 @@
 -- What a gift leaves, and after which moment the stripe then stands.
-use Rattle.std.proofs.Common.{◌≡◌, ◌⊎◌, inl, inr, ℕ, zero, suc, ◌<◌, ◌≤◌, Bool, true, false, ◌&&◌, ◌||◌, not, if◌then◌else◌, nat_eq, Option, Some, None, is_some, List, [], ◌∷◌, map, take, replicate, refl, ap, sym, ◌∙◌, subst}
+use Rattle.std.proofs.Common.{◌≡◌, ◌⊎◌, inl, inr, ℕ, ◌<◌, ◌≤◌, Bool, true, false, ◌&&◌, ◌||◌, if◌then◌else◌, nat_eq, Option, Some, None, List, [], ◌∷◌, refl, ap, sym, ◌∙◌, subst}
 use Rattle.std.specs.List.{filter_map, cons_option}
 use Rattle.std.specs.Option.{option_and_then}
 use Rattle.qd_scheme.specs.declared.key.Key.{Key}
 use Rattle.qd_scheme.specs.declared.key.Record.{Record}
-use Rattle.qd_scheme.specs.Keys.{key_eq}
-use Rattle.qd_scheme.proofs.KeyLaws.{key_eq-true}
 use Rattle.qd_pend.specs.Slots.{SlotList, has, without, first_in, rest_of, EachOnce}
-use Rattle.qd_pend.proofs.ListLaws.{same, equal, has-here, without-first}
-use Rattle.qd_sub.specs.Acts.{Act, Subscribed, Unsubscribed, Closed, Came, Gave, Told, is_pair}
-use Rattle.qd_sub.specs.Since.{by_since, begun_within}
-use Rattle.qd_sub.specs.Subscriptions.{subscribed, wanted, kept}
-use Rattle.qd_sub.specs.Watching.{watched}
+use Rattle.qd_pend.proofs.ListLaws.{equal, has-here, without-first}
+use Rattle.qd_sub.specs.Acts.{Act, Gave}
+use Rattle.qd_sub.specs.Subscriptions.{subscribed, kept}
 use Rattle.qd_sub.specs.Logs.{after}
-use Rattle.qd_sub.specs.declared.sub.Want.{Want}
-use Rattle.qd_sub.proofs.SubscriptionLaws.{wanted-none, kept-unwanted, kept-came_other, kept-came_same, kept-came_unwanted, kept-gave, kept-sub, kept-closed, kept-unsub_wanted, wanted-subscribed}
-use Rattle.qd_sub.proofs.WatchLaws.{wanted-told}
-use Rattle.qd_slots.specs.declared.holds.Hold.TheVariants.{Free}
-use Rattle.qd_slots.specs.Holds.{is_subscribed, is_held}
-use Rattle.qd_slots.proofs.NameLaws.{below-or-not}
-use Rattle.qd_table.specs.Tables.{Table, key_at, slot_for, hold_for, limit_by, is_wanted_slot, is_used, queue_of, no_table}
-use Rattle.qd_table.specs.Steps.{IsTold, TellsAll}
-use Rattle.qd_table.specs.Sound.{IsSound}
+use Rattle.qd_sub.proofs.SubscriptionLaws.{kept-gave}
+use Rattle.qd_table.specs.Tables.{key_at, queue_of}
 use Rattle.qd_table.specs.Standing.{StandsFor}
-use Rattle.qd_table.proofs.TableLaws.{key_at-found, key_at-subscribed, wanted-someone, below-any, subscribed-held, or-left, some-same, some-none, true-false}
+use Rattle.qd_table.proofs.TableLaws.{true-false}
 use Rattle.qd_ticker.specs.Pending.{TickerMoment, last, last_record, has_items, pending}
 use Rattle.qd_ticker.specs.Pending as asked
-use Rattle.qd_ticker.specs.Kept.{with_slot, pending_name, last_name, IsKept, IsIdle}
-use Rattle.qd_ticker.specs.Stripes.{Shown, StandsAt, last_at, queue_at, no_queue, no_keeps}
-use Rattle.qd_ticker.specs.Steps.{with_queued, with_dropped, with_popped, IsPut, IsAdded, IsDropped, IsGiven, IsRoomier, IsTelling}
-use Rattle.qd_ticker.proofs.AboutLaws.{kept-same}
-use Rattle.qd_ticker.proofs.SlotLists.{IsApart}
-use Rattle.qd_ticker.proofs.KeptLaws.{IsRenamed, kept-renamed, kept-alike}
-use Rattle.qd_ticker.proofs.ActLaws.{IsAt, last-push, kept-put, kept-put_unwanted, kept-gift, kept-end, kept-subscription, kept-close, kept-telling}
-use Rattle.qd_table.proofs.StandLaws.{subscribed-table, subscribed-absent, wanted-table, wanted-absent}
-use Rattle.qd_table.proofs.StandSteps.{stands-subscribed, stands-ended}
-use Rattle.qd_table.proofs.StandOthers.{stands-same, stands-came, stands-gave, stands-closed}
-use Rattle.qd_table.proofs.StandChains.{stands-watched}
-use Rattle.qd_table.proofs.NewLaws.{stands-new}
-use Rattle.qd_ticker.proofs.StandLaws.{IsLabelled, lists_of, labels-same, at-slot, with-false}
+use Rattle.qd_ticker.specs.Kept.{pending_name, last_name, IsKept}
+use Rattle.qd_ticker.specs.Stripes.{Shown, StandsAt, last_at, queue_at, no_keeps}
+use Rattle.qd_ticker.specs.Steps.{with_popped, IsGiven}
+use Rattle.qd_ticker.proofs.KeptLaws.{kept-alike}
+use Rattle.qd_ticker.proofs.ActLaws.{kept-gift}
+use Rattle.qd_table.proofs.StandOthers.{stands-gave}
+use Rattle.qd_ticker.proofs.StandLaws.{lists_of, labels-same, at-slot}
 use Rattle.qd_sub.proofs.SinceLaws.{and-left, and-right}
 
 -- a gift

@@ -4,7 +4,7 @@ use Rattle.std.specs.List.{filter, filter_map, cons_option}
 use Rattle.qd_scheme.specs.declared.key.Key.{Key}
 use Rattle.qd_scheme.specs.declared.key.Record.{Record}
 use Rattle.qd_scheme.specs.Keys.{key_eq}
-use Rattle.qd_scheme.proofs.KeyLaws.{key_eq-same, key_eq-true, key_eq-comm}
+use Rattle.qd_scheme.proofs.KeyLaws.{key_eq-comm}
 use Rattle.qd_pend.specs.Slots.{has, without, EachOnce}
 use Rattle.qd_pend.proofs.ListLaws.{equal, has-here, has-later, EachOnce-without}
 use Rattle.qd_sub.specs.Acts.{Act, newest_key, is_gift, is_put}
@@ -12,12 +12,12 @@ use Rattle.qd_sub.specs.Since.{last_place}
 use Rattle.qd_sub.specs.Subscriptions.{subscribed, began, wanted, kept}
 use Rattle.qd_sub.proofs.OrderLaws.{is_about}
 use Rattle.qd_sub.proofs.SinceLaws.{grown}
-use Rattle.qd_sub.proofs.SubscriptionLaws.{kept-unwanted, wanted-subscribed}
+use Rattle.qd_sub.proofs.SubscriptionLaws.{kept-unwanted}
 use Rattle.qd_ticker.specs.Pending.{TickerMoment, last, last_record, pending, queue_of}
 use Rattle.qd_ticker.specs.Kept.{with_slot, pending_name, last_name, IsKept, IsIdle}
-use Rattle.qd_ticker.proofs.PendingLaws.{pending-unsubscribed}
 use Rattle.qd_ticker.proofs.AboutLaws.{pending-about, last_record-about, queue_of-about, queue_of-same}
-use Rattle.qd_ticker.proofs.SlotLists.{IsApart, same-slot, other-slot, names-without, names-with, has-with, has-less, EachOnce-with}
+use Rattle.qd_table.proofs.SlotKeys.{IsApart, same-slot}
+use Rattle.qd_ticker.proofs.SlotLists.{names-without, names-with, has-with, has-less, EachOnce-with}
 
 -- an act that changes neither the last records nor what is pending
 pub kept-quiet : (name : ℕ → Option Key) (lasts : ℕ → Option Record) (queues : ℕ → List ℕ) (act : Act Record Record) (now : TickerMoment) → ((k : Key) → last_record k (act ∷ now) ≡ last_record k now) → ((a : ℕ) (k : Key) → pending a k (act ∷ now) ≡ pending a k now) →

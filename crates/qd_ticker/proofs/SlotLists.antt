@@ -5,35 +5,15 @@ use Rattle.std.specs.List.{filter, filter_map, cons_option}
 use Rattle.std.proofs.lemmas.List.Elements.{filter_map-append}
 use Rattle.qd_scheme.specs.declared.key.Key.{Key}
 use Rattle.qd_scheme.specs.Keys.{key_eq}
-use Rattle.qd_scheme.proofs.KeyLaws.{key_eq-same, key_eq-true}
 use Rattle.qd_pend.specs.Slots.{has, without, EachOnce}
-use Rattle.qd_pend.proofs.ListLaws.{same, equal, has-push, has-without, has-without_same, without-absent, EachOnce-without, EachOnce-push}
+use Rattle.qd_pend.proofs.ListLaws.{same, equal, has-push, has-without, has-without_same, EachOnce-push}
 use Rattle.qd_sub.specs.Holding.{has_key}
 use Rattle.qd_sub.proofs.SinceLaws.{grown}
+use Rattle.qd_table.proofs.SlotKeys.{IsApart, same-slot}
 use Rattle.qd_ticker.specs.Kept.{with_slot}
-
--- different slots have different keys
-abbrev pub IsApart : (ℕ → Option Key) → Type 0
-IsApart name = (i j : ℕ) (k : Key) → name i ≡ Some k → name j ≡ Some k → i ≡ j
 
 none-some : (k : Key) → (let m : Option Key = None in let n : Option Key = Some k in m ≡ n) → ⊥
 none-some k h = cc
-
-some-same : (j k : Key) → (let m : Option Key = Some j in let n : Option Key = Some k in m ≡ n) → j ≡ k
-some-same j k h = cc
-
--- a slot is k's just where its key is k
-pub same-slot : (name : ℕ → Option Key) → IsApart name → (slot : ℕ) (k : Key) → name slot ≡ Some k → (s : ℕ) (j : Key) → name s ≡ Some j → nat_eq slot s ≡ key_eq k j
-same-slot name apart slot k here s j there =
-    let go : (b c : Bool) → nat_eq slot s ≡ b → key_eq k j ≡ c → b ≡ c =
-    elim [
-      | true ↦ λ c e f. sym (key_eq-same k) ∙ ap (key_eq k) (some-same k j (sym here ∙ ap name (equal slot s e) ∙ there)) ∙ f
-      | false ↦ elim [
-        | true ↦ λ e f. sym e ∙ ap (nat_eq slot) (sym (apart slot s k here (there ∙ ap (λ x. (let o : Option Key = Some x in o)) (sym (key_eq-true k j f))))) ∙ same slot
-        | false ↦ λ e f. refl
-      ]
-    ] in
-    go (nat_eq slot s) (key_eq k j) refl refl
 
 -- a slot without a key is not k's
 pub other-slot : (name : ℕ → Option Key) (slot : ℕ) (k : Key) → name slot ≡ Some k → (s : ℕ) → name s ≡ None → nat_eq slot s ≡ false

@@ -1,15 +1,15 @@
 -- What is true of the fields of a stripe stays true.
-use Rattle.std.proofs.Common.{◌≡◌, ◌≢◌, ◌⊎◌, inl, inr, ℕ, zero, suc, ◌+◌, ◌<◌, ◌≤◌, Bool, true, false, ◌&&◌, not, if◌then◌else◌, nat_eq, nat_lt, Option, Some, None, List, [], ◌∷◌, length, max, replicate, slice_set, get_or-set_other, get_or-set_same, refl, ap, sym, ◌∙◌, arith, subst}
+use Rattle.std.proofs.Common.{◌≡◌, ◌≢◌, ◌⊎◌, inl, inr, ℕ, zero, suc, ◌+◌, ◌<◌, ◌≤◌, Bool, true, false, ◌&&◌, not, if◌then◌else◌, nat_eq, nat_lt, Option, Some, None, List, [], ◌∷◌, length, replicate, slice_set, get_or-set_other, get_or-set_same, refl, ap, sym, ◌∙◌, arith, subst}
 use Rattle.std.proofs.lemmas.Bool.Decides.{nat_tests}
 use Rattle.std.proofs.lemmas.List.{length-set}
 use Rattle.qd_scheme.specs.declared.key.Key.{Key}
 use Rattle.qd_scheme.specs.declared.key.Record.{Record}
 use Rattle.qd_pend.specs.Slots.{SlotList}
-use Rattle.qd_pend.proofs.ListLaws.{same, equal}
+use Rattle.qd_pend.proofs.ListLaws.{equal}
 use Rattle.qd_slots.specs.declared.holds.Hold.TheVariants.{Free, Subscribed}
-use Rattle.qd_slots.specs.Holds.{is_subscribed, after_end, cell_at, hold_at, hold_in, no_cell}
+use Rattle.qd_slots.specs.Holds.{is_subscribed, after_end}
 use Rattle.qd_table.specs.Tables.{Table, key_at, slots_in, hold_for, is_wanted_slot, is_used, no_table}
-use Rattle.qd_table.specs.Steps.{IsSame, IsSubscribed, IsEnded, IsTold, TellsAll, IsNextAgent, is_cell}
+use Rattle.qd_table.specs.Steps.{IsSame, IsSubscribed, IsEnded, TellsAll, IsNextAgent, is_cell}
 use Rattle.qd_table.proofs.TableLaws.{key_at-within, below-any, below-none, some-none, true-false, apart-numbers}
 use Rattle.qd_slots.proofs.NameLaws.{below-or-not}
 use Rattle.qd_ticker.specs.Stripes.{last_at, queue_at, no_queue}

@@ -1,5 +1,5 @@
 -- A step keeps what the stripe stands for, and its entry is lawful.
-use Rattle.std.proofs.Common.{◌≡◌, ◌⊎◌, inl, inr, ℕ, ◌<◌, Bool, true, false, ◌||◌, if◌then◌else◌, nat_lt, Option, Some, None, is_some, List, [], ◌∷◌, ◌++◌, length, map, take, refl, ap, sym, ◌∙◌, subst}
+use Rattle.std.proofs.Common.{◌≡◌, ◌⊎◌, inl, inr, ℕ, ◌<◌, Bool, true, false, ◌||◌, if◌then◌else◌, Option, Some, None, is_some, List, [], ◌∷◌, ◌++◌, map, refl, ap, sym, ◌∙◌, subst}
 use Rattle.std.proofs.Math.Bool.{or-false}
 use Rattle.qd_scheme.specs.declared.key.Key.{Key}
 use Rattle.qd_scheme.specs.declared.key.Record.{Record}
@@ -13,21 +13,21 @@ use Rattle.qd_sub.specs.declared.op.Op.{Op}
 use Rattle.qd_sub.specs.declared.op.Op.TheVariants.{Add, Remove, Close, Put, Take, Watch}
 use Rattle.qd_sub.specs.declared.op.Reply.{Reply}
 use Rattle.qd_sub.specs.declared.op.Reply.TheVariants.{Done, Items, Wants, TooManyKeys, TooManySubs, NoMemory}
-use Rattle.qd_sub.specs.Acts.{Act, Came}
+use Rattle.qd_sub.specs.Acts.{Came}
 use Rattle.qd_sub.specs.Subscriptions.{subscribed, keys_of}
-use Rattle.qd_sub.specs.Holding.{held, held_keys, held_pairs, has_key}
-use Rattle.qd_sub.specs.Watching.{known, watched}
+use Rattle.qd_sub.specs.Holding.{held, held_keys, held_pairs}
+use Rattle.qd_sub.specs.Watching.{watched}
 use Rattle.qd_sub.specs.Logs.{after, ends_of, after_entry, after_log}
 use Rattle.qd_sub.proofs.LogLaws.{after_log-push}
-use Rattle.qd_sub.proofs.StepLaws.{keys_of-has, held_pairs-has, held_pairs-once, pair_eq}
+use Rattle.qd_sub.proofs.StepLaws.{keys_of-has, held_pairs-has, held_pairs-once}
 use Rattle.qd_sub.proofs.HeldLaws.{held-agent, held-watcher, held-holder, held_keys-has, held_keys-once}
 use Rattle.qd_table.specs.declared.table.SubFault.{SubFault}
 use Rattle.qd_table.specs.declared.table.SubFault.TheVariants.{TooManyKeys as FaultKeys, TooManySubs as FaultSubs}
-use Rattle.qd_table.specs.Tables.{Table, slot_for, holds_by, wants_for, fault_of, no_table}
-use Rattle.qd_ticker.specs.Pending.{TickerMoment, taken}
+use Rattle.qd_table.specs.Tables.{slot_for, wants_for, fault_of}
+use Rattle.qd_ticker.specs.Pending.{TickerMoment}
 use Rattle.qd_ticker.specs.Legal.{TickerEntry, ticker_acts, moment_of, too_many_keys, too_many_subs, reply_to, IsLawful, Follows, IsLegal}
 use Rattle.qd_ticker.specs.Stripes.{Shown, StandsAt, Stands, no_keeps}
-use Rattle.qd_ticker.specs.Steps.{IsTelling, Leads, Takes, Adds, Answers, add_acts}
+use Rattle.qd_ticker.specs.Steps.{IsTelling, Leads, Takes, Adds, Answers}
 use Rattle.qd_table.proofs.StandLaws.{watched-table}
 use Rattle.qd_table.proofs.TableCounts.{key-holder, fault-table}
 use Rattle.qd_ticker.proofs.TellLaws.{StandsAt-told}

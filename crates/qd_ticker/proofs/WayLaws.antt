@@ -1,38 +1,34 @@
 -- Calls that are made of steps: where the stripe stands between them.
-use Rattle.std.proofs.Common.{◌≡◌, ◌⊎◌, inl, inr, ℕ, suc, zero, ◌+◌, ◌-◌, ◌<◌, ◌≤◌, Bool, true, false, ◌&&◌, not, if◌then◌else◌, nat_eq, Option, Some, None, is_some, List, [], ◌∷◌, ◌++◌, length, map, take, drop, get_or, refl, ap, sym, ◌∙◌, subst, arith, add-one}
+use Rattle.std.proofs.Common.{◌≡◌, ◌⊎◌, inl, inr, ℕ, suc, zero, ◌+◌, ◌-◌, ◌<◌, ◌≤◌, true, false, ◌&&◌, not, if◌then◌else◌, nat_eq, Option, Some, None, is_some, List, [], ◌∷◌, ◌++◌, length, map, take, drop, get_or, refl, ap, sym, ◌∙◌, subst, arith, add-one}
 use Rattle.std.proofs.Math.Seq.{drop-cons}
 use Rattle.std.proofs.Math.ListN.{drop_of_length-le}
 use Rattle.std.proofs.lemmas.List.{append-nil, append_assoc}
 use Rattle.std.specs.List.{filter, filter_map, cons_option}
-use Rattle.std.proofs.lemmas.Bool.{not-true}
 use Rattle.qd_scheme.specs.declared.key.Key.{Key}
 use Rattle.qd_scheme.specs.declared.key.Record.{Record}
 use Rattle.qd_scheme.specs.Keys.{key_eq}
-use Rattle.qd_scheme.proofs.KeyLaws.{key_eq-same}
 use Rattle.qd_buffer.specs.Filled.{Filled, with_items}
-use Rattle.qd_pend.specs.Slots.{SlotList, has, without, first_in}
+use Rattle.qd_pend.specs.Slots.{SlotList, without, first_in}
 use Rattle.qd_pend.proofs.ListLaws.{same}
 use Rattle.qd_sub.specs.declared.sub.Sub.{Sub}
 use Rattle.qd_sub.specs.Acts.{Act, Subscribed, Unsubscribed, Closed, Came, Gave}
-use Rattle.qd_sub.specs.Subscriptions.{subscribed, keys_of, kept}
-use Rattle.qd_sub.specs.Holding.{has_key}
+use Rattle.qd_sub.specs.Subscriptions.{subscribed, keys_of}
 use Rattle.qd_sub.specs.Logs.{after, ends_of}
+use Rattle.qd_sub.proofs.KeyEnds.{keys-rest}
 use Rattle.qd_sub.proofs.OrderLaws.{once}
-use Rattle.qd_sub.proofs.StepLaws.{keys_of-once, keys_of-unsub}
 use Rattle.qd_sub.proofs.SubscriptionLaws.{kept-gave}
 use Rattle.qd_slots.specs.Holds.{is_subscribed}
 use Rattle.qd_table.specs.Tables.{key_at, keys_at, slot_for, slots_in, hold_for, limit_by, order_of}
-use Rattle.qd_table.proofs.TableLaws.{key_at-found, key_at-subscribed, some-same, some-none, true-false}
-use Rattle.qd_ticker.specs.Pending.{TickerMoment, last, last_record, pending, queue_of, taken}
+use Rattle.qd_table.proofs.TableLaws.{key_at-found, key_at-subscribed, some-same, some-none}
+use Rattle.qd_ticker.specs.Pending.{TickerMoment, last, last_record, queue_of, taken}
 use Rattle.qd_ticker.specs.Stripes.{Shown, StandsAt, last_at, queue_at, no_keeps}
 use Rattle.qd_ticker.specs.Steps.{IsPut, IsAdded, IsDropped, IsGiven, IsRoomier, HasRoom, Leads, add_acts, gift_acts}
 use Rattle.qd_ticker.proofs.AboutLaws.{queue_of-about, queue_of-once}
 use Rattle.qd_ticker.proofs.PendingLaws.{pending-gave_same}
 use Rattle.qd_table.proofs.StandLaws.{subscribed-table, subscribed-absent}
 use Rattle.qd_ticker.proofs.StandLaws.{StandsAt-put, StandsAt-add, StandsAt-drop, StandsAt-closed, StandsAt-roomier}
-use Rattle.qd_ticker.proofs.GiftLaws.{StandsAt-given, IsGift, Gifts}
+use Rattle.qd_ticker.proofs.GiftLaws.{StandsAt-given, Gifts}
 use Rattle.qd_ticker.proofs.SoundLaws.{slots-queued}
-use Rattle.qd_sub.proofs.SinceLaws.{and-left}
 
 -- on its way the stripe stands for a moment from which the rest leads to the end
 abbrev pub OnWay : Shown → (TickerMoment → TickerMoment) → TickerMoment → Type 0
@@ -117,29 +113,6 @@ close_acts a m = map (Unsubscribed a) (keys_of a m) ++ Closed a ∷ []
 
 abbrev pub close_lead : ℕ → TickerMoment → TickerMoment
 close_lead a m = after m (close_acts a m)
-
-filter-alone : (ks : List Key) (k : Key) → has_key ks k ≡ false → filter (λ j. not (key_eq k j)) ks ≡ ks
-filter-alone [] k h = refl
-filter-alone (j ∷ ks) k h =
-    let go : (c : Bool) → key_eq k j ≡ c → filter (λ i. not (key_eq k i)) (j ∷ ks) ≡ j ∷ ks =
-    elim [
-      | true ↦ λ e. let z = rw e at h in cc
-      | false ↦ λ e. rw e (ap (λ js. j ∷ js) (filter-alone ks k (rw e at h)))
-    ] in
-    go (key_eq k j) refl
-
-once-first : (k : Key) (ks : List Key) → once key_eq (k ∷ ks) ≡ true → has_key ks k ≡ false
-unfolding once
-once-first k ks h = not-true (has_key ks k) (and-left (not (has_key ks k)) (once key_eq ks) h)
-
--- the list without its first key
-filter-first : (k : Key) (ks : List Key) → once key_eq (k ∷ ks) ≡ true → filter (λ j. not (key_eq k j)) (k ∷ ks) ≡ ks
-filter-first k ks h = rw (key_eq-same k) (filter-alone ks k (once-first k ks h))
-
-keys-rest : (a : ℕ) (k : Key) (ks : List Key) (m : TickerMoment) → keys_of a m ≡ k ∷ ks → keys_of a (Unsubscribed a k ∷ m) ≡ ks
-keys-rest a k ks m e =
-    keys_of-unsub a a k m ∙ ap (λ b. if b then filter (λ j. not (key_eq k j)) (keys_of a m) else keys_of a m) (same a) ∙ ap (filter (λ j. not (key_eq k j))) e
-    ∙ filter-first k ks (ap (once key_eq) (sym e) ∙ keys_of-once a m)
 
 close-step : (a : ℕ) (k : Key) (ks : List Key) (m : TickerMoment) → keys_of a m ≡ k ∷ ks → close_lead a (Unsubscribed a k ∷ m) ≡ close_lead a m
 unfolding after

@@ -1,5 +1,5 @@
 -- What the calls leave of what a stripe keeps.
-use Rattle.std.specs.Prelude.{ℕ, ◌≡◌, ◌≤◌, ◌<◌, Bool, true, false, ◌&&◌, not, nat_eq, if◌then◌else◌, Option, Some, None, is_some, List, [], length, map, max, take}
+use Rattle.std.specs.Prelude.{ℕ, ◌≡◌, ◌≤◌, ◌<◌, false, ◌&&◌, not, nat_eq, if◌then◌else◌, Option, Some, None, is_some, List, [], length, map, max, take}
 use Rattle.std.specs.Option.{option_and_then}
 use Rattle.qd_scheme.specs.declared.key.Key.{Key}
 use Rattle.qd_scheme.specs.declared.key.Record.{Record}
@@ -13,7 +13,7 @@ use Rattle.qd_sub.specs.Acts.{Act, Subscribed, Gave}
 use Rattle.qd_sub.specs.Logs.{after}
 use Rattle.qd_table.specs.declared.table.SubFault.TheVariants.{TooManyKeys as FaultKeys, TooManySubs as FaultSubs}
 use Rattle.qd_slots.specs.Holds.{is_subscribed}
-use Rattle.qd_table.specs.Tables.{Table, slots_in, slot_for, hold_for, limit_by, is_wanted_slot, queue_of, fault_of}
+use Rattle.qd_table.specs.Tables.{slots_in, slot_for, hold_for, limit_by, is_wanted_slot, queue_of, fault_of}
 use Rattle.qd_table.specs.Steps.{IsSame, IsSubscribed, IsEnded, TellsAll}
 use Rattle.qd_ticker.specs.Pending.{TickerMoment, taken}
 use Rattle.qd_ticker.specs.Legal.{ticker_acts, IsLawful}

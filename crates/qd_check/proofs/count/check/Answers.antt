@@ -1,5 +1,5 @@
 use Rattle.std.proofs.Common.{refl}
-use Rattle.qd_check.proofs.CheckLaws.{count_printed, count_broke}
+use Rattle.qd_check.proofs.CheckLaws.{count_printed}
 use Rattle.qd_check.proofs.RunLaws.{not_begun, finished, decided}
 use Rattle.qd_check.proofs.count.check.Goals as goal
 

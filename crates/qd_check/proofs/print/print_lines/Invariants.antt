@@ -1,7 +1,6 @@
 use Rattle.std.specs.Prelude.{◌≡◌, ◌++◌}
 use Rattle.qd_grammar.specs.declared.item.Mode.TheVariants.{File}
 use Rattle.qd_items.specs.Work.{work}
-use Rattle.qd_check.specs.Runs.{Outside}
 use Rattle.qd_check.proofs.FmtLaws.{IsPrinting}
 use Rattle.qd_check.proofs.print.print_lines.Given as goal
 

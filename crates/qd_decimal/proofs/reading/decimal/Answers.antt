@@ -1,11 +1,9 @@
-use Rattle.std.proofs.Common.{◌≡◌, ℕ, ◌+◌, ◌-◌, ◌^◌, ◌<◌, ◌≤◌, ◌∙◌, sym, ap, arith, length, get_or, min, slice_range}
-use Rattle.std.specs.Prelude.{Option, Some, Result, Ok, Err}
+use Rattle.std.proofs.Common.{◌≡◌, ◌+◌, ◌-◌, ◌^◌, ◌<◌, ◌≤◌, ◌∙◌, sym, ap, arith, length, get_or, min, slice_range}
+use Rattle.std.specs.Prelude.{Some, Ok, Err}
 use Rattle.std.proofs.lemmas.Result.{err_from_is_err_and}
 use Rattle.std.proofs.lemmas.Bool.Decides.{nat_tests}
-use lib.IntN.{ℤ}
 use Rattle.qd_decimal.specs.Numbers.{with_digits, signed_fit}
 use Rattle.qd_decimal.specs.Reading.{digits_end, has_minus, start_of, fraction_start, kept_end, rest_at, magnitude_at}
-use Rattle.qd_decimal.specs.declared.fault.DecFault.{DecFault}
 use Rattle.qd_decimal.specs.declared.fault.DecFault.TheVariants.{BadByte}
 use Rattle.qd_decimal.proofs.Places.{start_within}
 use Rattle.qd_decimal.proofs.OnePass.{run_end, dec_empty, dec_no_digit, dec_no_point, dec_rest_bad, dec_rest_good, magnitude_made, start_byte}

@@ -1,10 +1,9 @@
-use Rattle.std.proofs.Common.{◌≡◌, ℕ, ◌<◌, ◌∙◌, sym, ap, arith, length}
-use Rattle.std.specs.Prelude.{Option, Result, Ok, Err}
+use Rattle.std.proofs.Common.{◌≡◌, ◌<◌, ◌∙◌, sym, ap, arith, length}
+use Rattle.std.specs.Prelude.{Ok, Err}
 use Rattle.std.proofs.lemmas.Result.{err_from_is_err_and}
 use Rattle.std.proofs.lemmas.Bool.Decides.{nat_tests}
 use Rattle.qd_decimal.specs.Numbers.{signed_fit}
-use Rattle.qd_decimal.specs.Reading.{has_minus, start_of, whole_at}
-use Rattle.qd_decimal.specs.declared.fault.DecFault.{DecFault}
+use Rattle.qd_decimal.specs.Reading.{start_of, whole_at}
 use Rattle.qd_decimal.proofs.OnePass.{start_byte}
 use Rattle.qd_decimal.proofs.Wholes.{int_empty, int_bad, int_good}
 use Rattle.qd_decimal.proofs.reading.int.Goals as goal

@@ -1,5 +1,5 @@
 use Rattle.std.proofs.Common.{ℕ, arith, ◌<◌, ◌^◌, sym, subst, ◌≤◌}
-use Rattle.std.specs.Prelude.{Result, IfOk}
+use Rattle.std.specs.Prelude.{Result}
 use Rattle.qd_decimal.specs.Exact.{ReadsCount}
 use Rattle.qd_decimal.specs.declared.fault.DecFault.{DecFault}
 use Rattle.qd_decimal.proofs.Wholes.{reads_count, count_within}

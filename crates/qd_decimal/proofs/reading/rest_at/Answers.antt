@@ -1,7 +1,5 @@
-use Rattle.std.proofs.Common.{◌≡◌, ℕ, ◌+◌, ◌<◌, ◌≤◌, ◌∙◌, sym, ap, arith, length}
-use Rattle.std.specs.Prelude.{Err}
+use Rattle.std.proofs.Common.{◌≡◌, ◌+◌, ◌<◌, ◌≤◌, ◌∙◌, sym, ap, arith, length}
 use Rattle.qd_decimal.specs.Reading.{digits_end, zeros_end}
-use Rattle.qd_decimal.specs.declared.fault.DecFault.TheVariants.{BadByte, TooFine}
 use Rattle.qd_decimal.proofs.Places.{end_within}
 use Rattle.qd_decimal.proofs.Ends.{digits_past, rest_bad, rest_fine, rest_coarse, zeros_within}
 use Rattle.qd_decimal.proofs.reading.rest_at.Goals as goal

@@ -1,5 +1,5 @@
-use Rattle.std.proofs.Common.{◌≡◌, ℕ, ◌+◌, ◌<◌, ◌≤◌, ◌∙◌, sym, ap, arith, length}
-use Rattle.std.specs.Prelude.{Ok, Err}
+use Rattle.std.proofs.Common.{◌≡◌, ◌+◌, ◌<◌, ◌≤◌, ◌∙◌, sym, ap, arith}
+use Rattle.std.specs.Prelude.{Ok}
 use Rattle.qd_decimal.specs.Reading.{digits_end}
 use Rattle.qd_decimal.proofs.OnePass.{run_end, whole_none, whole_stops, whole_good}
 use Rattle.qd_decimal.proofs.reading.whole_at.Goals as goal

@@ -1,4 +1,4 @@
-use Rattle.std.proofs.Common.{arith, sym, ◌∙◌, ap, ◌+◌, ◌++◌, drop}
+use Rattle.std.proofs.Common.{arith, ◌∙◌, ap, ◌+◌, ◌++◌, drop}
 use Rattle.std.specs.Prelude.{decimal}
 use Rattle.qd_decimal.proofs.FixedDigits.{no_point, number_small, number_short, number_some, point_at}
 use Rattle.qd_decimal.proofs.writing.write_point.Goals as goal

@@ -1,4 +1,4 @@
-use Rattle.std.proofs.Common.{Bool, ℕ, ap, sym}
+use Rattle.std.proofs.Common.{Bool, ap, sym}
 use Rattle.std.specs.Prelude.{if◌then◌else◌}
 use Rattle.qd_history.proofs.RoomLaws.{wanted-some, wanted-none}
 use Rattle.qd_history.proofs.rooms.one_if_wanted.Goals as goal

@@ -1,4 +1,4 @@
-use Rattle.std.proofs.Common.{◌≡◌, ◌≤◌, ℕ, length, vec_len}
+use Rattle.std.proofs.Common.{◌≡◌, ◌≤◌, ℕ, length}
 use Rattle.std.specs.List.{sum_by}
 use Rattle.qd_history.specs.Sides.{feed_now, owed_count}
 use Rattle.qd_history.proofs.sides.add_feeds.Given as goal

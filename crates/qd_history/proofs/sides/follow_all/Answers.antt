@@ -1,4 +1,4 @@
-use Rattle.std.proofs.Common.{◌≡◌, ◌<◌, ◌≤◌, ◌+◌, ◌∙◌, inl, refl, sym, ap, subst, arith, length, ℕ}
+use Rattle.std.proofs.Common.{◌≡◌, ◌<◌, ◌≤◌, ◌+◌, ◌∙◌, inl, refl, sym, subst, arith, length, ℕ}
 use Rattle.qd_table.specs.Tables.{limit_for}
 use Rattle.qd_hist_stand.specs.Stripes.{Side, floor_in}
 use Rattle.qd_hist_stand.specs.Steps.{part_after}

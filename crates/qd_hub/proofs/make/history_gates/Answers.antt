@@ -1,7 +1,7 @@
 use denote.Param.Send.{sendable}
-use Rattle.std.proofs.Common.{◌≡◌, refl, ap, arith}
+use Rattle.std.proofs.Common.{◌≡◌, arith}
 use Rattle.qd_history.proofs.Sending.{stripe_send}
-use Rattle.qd_hist_stand.specs.Stripes.{Shown, Stands, terms_in}
+use Rattle.qd_hist_stand.specs.Stripes.{terms_in}
 use Rattle.qd_hist_rules.specs.Legal.{terms_of}
 use Rattle.qd_hub.proofs.Making.{none_first, one_more_first, as_many_first}
 use Rattle.qd_hub.proofs.make.history_gates.Goals as goal

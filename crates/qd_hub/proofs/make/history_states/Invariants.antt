@@ -1,4 +1,4 @@
-use Rattle.qd_hist_stand.specs.Stripes.{Shown, Stands, terms_in}
+use Rattle.qd_hist_stand.specs.Stripes.{Stands, terms_in}
 use Rattle.qd_hist_rules.specs.Legal.{terms_of}
 use Rattle.qd_hub.specs.Owns.{AllNew}
 use Rattle.qd_hub.proofs.make.history_states.Given as goal

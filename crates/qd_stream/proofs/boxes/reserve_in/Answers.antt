@@ -3,7 +3,6 @@ use Rattle.std.specs.Prelude.{Some, slice_set}
 use Rattle.std.proofs.lemmas.Result.{on_err_weaker}
 use Rattle.std.proofs.lemmas.List.{set-get_or}
 use Rattle.qd_stream.specs.Outboxes.{Outstanding}
-use Rattle.qd_stream.specs.Boxes.{place_at}
 use Rattle.qd_stream.proofs.boxes.reserve_in.Goals as goal
 
 pub returns-in-Some-clause-err : goal.returns-in-Some-clause-err

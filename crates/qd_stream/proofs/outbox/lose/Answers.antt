@@ -1,6 +1,6 @@
 use Rattle.std.proofs.Common.{ap, sym, ◌∙◌, arith, slice_set, ◌+◌}
 use Rattle.std.specs.Prelude.{min}
-use Rattle.qd_stream.specs.Outboxes.{lost_by, with_lost}
+use Rattle.qd_stream.specs.Outboxes.{lost_by}
 use Rattle.qd_stream.proofs.OutboxLaws.{lose-more, lose-new}
 use Rattle.qd_stream.proofs.outbox.lose.Goals as goal
 

@@ -1,6 +1,5 @@
-use Rattle.std.proofs.Common.{arith, ap, sym, refl, ◌∙◌, vec_len, ◌≡◌, ◌<◌, ◌≤◌, length, ℕ}
-use Rattle.qd_ticker.specs.Stripes.{queue_at}
-use Rattle.qd_ticker.proofs.SoundLaws.{queue-found, queue-none, queue-next, queue-all, slots-below}
+use Rattle.std.proofs.Common.{arith, refl, ◌∙◌, ◌≡◌, ◌<◌, ◌≤◌}
+use Rattle.qd_ticker.proofs.SoundLaws.{queue-found, queue-none, queue-next, queue-all}
 use Rattle.qd_ticker.proofs.queues.queue_for_all.Goals as goal
 
 pub loop-agent-init : goal.loop-agent-init

@@ -1,5 +1,4 @@
-use Rattle.std.proofs.Common.{◌≡◌, ◌+◌, ◌-◌, ◌++◌, arith, take, drop}
-use borrow.Rule.Slice.PartMut.{put_mid}
+use Rattle.std.proofs.Common.{◌≡◌, ◌+◌, ◌-◌, ◌++◌, arith}
 use Rattle.qd_decimal.proofs.Copies.{copied}
 use Rattle.qd_decimal.proofs.line.Line.append_short.Goals as goal
 

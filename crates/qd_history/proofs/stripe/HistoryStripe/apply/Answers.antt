@@ -1,4 +1,4 @@
-use Rattle.std.proofs.Common.{ap, refl, sym}
+use Rattle.std.proofs.Common.{ap, refl}
 use Rattle.qd_hist_rules.specs.declared.reply.HistoryReply.TheVariants.{Items, Wants}
 use Rattle.qd_history.specs.Steps.{StepsTo}
 use Rattle.qd_history.proofs.stripe.HistoryStripe.apply.Goals as goal

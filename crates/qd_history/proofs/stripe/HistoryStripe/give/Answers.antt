@@ -1,6 +1,5 @@
-use Rattle.std.proofs.Common.{◌≡◌, ◌<◌, ◌+◌, ◌^◌, ℕ, Some, length, slice_set, refl, ap, sym, ◌∙◌, arith, subst}
+use Rattle.std.proofs.Common.{◌≡◌, ◌<◌, ◌+◌, ◌^◌, ℕ, length, slice_set, refl, ap, sym, ◌∙◌, arith, subst}
 use Rattle.std.specs.Prelude.{vec_len}
-use Rattle.qd_flags.specs.declared.commits.Floor.{Floor}
 use Rattle.qd_pend.specs.Slots.{first_in}
 use Rattle.qd_slots.proofs.HoldLaws.{at-read}
 use Rattle.qd_table.specs.Tables.{limit_for}

@@ -1,4 +1,4 @@
-use Rattle.std.proofs.Common.{◌≡◌, ◌≤◌, ◌+◌, ◌^◌, ◌∙◌, length, ap, sym, subst, arith}
+use Rattle.std.proofs.Common.{◌≡◌, ◌≤◌, ◌+◌, ◌^◌, ◌∙◌, length, ap, arith}
 use Rattle.qd_hist_stand.specs.Stripes.{Shown}
 use Rattle.qd_history.specs.Rooms.{wanted_count}
 use Rattle.qd_history.proofs.RoomLaws.{can-put}

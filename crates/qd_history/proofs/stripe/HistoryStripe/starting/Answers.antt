@@ -1,4 +1,4 @@
-use Rattle.std.proofs.Common.{◌≡◌, [], refl, ap, sym, subst}
+use Rattle.std.proofs.Common.{◌≡◌, [], ap, sym, subst}
 use Rattle.std.specs.Prelude.{vec_len}
 use Rattle.qd_hist_stand.specs.Stripes.{Shown, StandsAt}
 use Rattle.qd_hist_stand.specs.Laws.{new_stripe}

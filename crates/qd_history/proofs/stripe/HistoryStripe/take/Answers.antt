@@ -1,7 +1,7 @@
 use Rattle.std.proofs.Common.{◌≡◌, ◌<◌, ◌≤◌, ◌+◌, ◌++◌, ◌∷◌, [], List, None, length, length-append, refl, ap, sym, ◌∙◌, arith}
 use Rattle.qd_hist_rules.specs.declared.item.HistItem.{HistItem}
 use Rattle.qd_history.specs.Steps.{Gift, last_slot}
-use Rattle.qd_history.proofs.WalkLaws.{gives-none, gives-snoc, items-snoc, last-snoc, last-none, filled}
+use Rattle.qd_history.proofs.WalkLaws.{gives-none, gives-snoc, items-snoc, last-snoc, last-none}
 use Rattle.qd_history.proofs.stripe.HistoryStripe.take.Goals as goal
 
 pub loop-i-init : goal.loop-i-init

@@ -1,8 +1,8 @@
 use denote.Param.Send.{sendable}
-use Rattle.std.proofs.Common.{◌≡◌, refl, sym, subst}
+use Rattle.std.proofs.Common.{◌≡◌, sym, subst}
 use Rattle.qd_hist_rules.specs.Legal.{IsLegal}
 use Rattle.qd_history.proofs.Sending.{stripe_send}
-use Rattle.qd_hist_stand.specs.Stripes.{Shown, Stands, terms_in}
+use Rattle.qd_hist_stand.specs.Stripes.{Stands, terms_in}
 use Rattle.qd_hub.specs.Configs.{history_terms}
 use Rattle.qd_hub.specs.Owns.{Own, ticker_at, stream_at, history_at}
 use Rattle.qd_hub.proofs.Owning.{stepped_asks, stepped_others}

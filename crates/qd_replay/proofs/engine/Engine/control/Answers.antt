@@ -1,4 +1,3 @@
-use Rattle.std.proofs.Common.{refl}
 use Rattle.qd_replay.proofs.Halts.{controlled, control_refused}
 use Rattle.qd_replay.proofs.engine.Engine.control.Goals as goal
 

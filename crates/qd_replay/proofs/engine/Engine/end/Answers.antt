@@ -1,4 +1,3 @@
-use Rattle.std.proofs.Common.{refl}
 use Rattle.qd_replay.proofs.Halts.{said_short, ended}
 use Rattle.qd_replay.proofs.engine.Engine.end.Goals as goal
 

@@ -1,4 +1,4 @@
-use Rattle.std.proofs.Common.{ap, ◌∙◌, sym, refl, drop}
+use Rattle.std.proofs.Common.{ap, ◌∙◌, refl, drop}
 use Rattle.qd_stream.specs.Outboxes.{with_items}
 use Rattle.qd_stream.specs.Boxes.{with_box, box_at}
 use Rattle.qd_stream.proofs.BoxLaws.{stored, stored-map}

@@ -1,4 +1,4 @@
-use Rattle.std.proofs.Common.{ap, ◌∙◌, sym, refl}
+use Rattle.std.proofs.Common.{ap, ◌∙◌, refl}
 use Rattle.qd_stream.specs.Outboxes.{without_first_loss}
 use Rattle.qd_stream.specs.Boxes.{with_box, box_at}
 use Rattle.qd_stream.proofs.BoxLaws.{stored, stored-map}

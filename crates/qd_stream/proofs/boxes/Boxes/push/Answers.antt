@@ -1,6 +1,6 @@
 use Rattle.std.proofs.Common.{ap, ◌∙◌, ◌<◌, sym, subst}
 use Rattle.qd_stream.specs.declared.outbox.Waiting.{Waiting}
-use Rattle.qd_stream.specs.Outboxes.{Outstanding, with_waiting}
+use Rattle.qd_stream.specs.Outboxes.{with_waiting}
 use Rattle.qd_stream.specs.Boxes.{Boxes, with_box, box_at, IsBoxed}
 use Rattle.qd_stream.proofs.BoxLaws.{stored, stored-some, made, cap-map, waiting-cap}
 use Rattle.qd_stream.proofs.boxes.Boxes.push.Goals as goal

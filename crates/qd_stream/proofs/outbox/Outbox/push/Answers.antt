@@ -1,6 +1,5 @@
 use Rattle.std.proofs.Common.{sym, ap, ◌∙◌, ◌≡◌, ◌+◌, ◌-◌, ◌<◌, ◌≤◌, false, nat_lt, List, ◌∷◌, ◌++◌, [], length, subst, arith, slice_set, slice_index}
 use Rattle.std.specs.Prelude.{slice_get, Some}
-use Rattle.circular_buffer.specs.Buffer.{Buffer}
 use Rattle.qd_stream.specs.declared.outbox.Waiting.{Waiting}
 use Rattle.qd_stream.specs.Outboxes.{Outstanding, lost_by, with_lost, with_waiting, IsSound}
 use Rattle.qd_pend.specs.Slots.{EachBelow}

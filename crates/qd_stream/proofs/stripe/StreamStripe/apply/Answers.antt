@@ -1,4 +1,4 @@
-use Rattle.std.proofs.Common.{ap, refl, sym, subst}
+use Rattle.std.proofs.Common.{ap, refl}
 use Rattle.qd_sub.specs.declared.op.Reply.TheVariants.{Items, Wants}
 use Rattle.qd_stream.specs.Steps.{StepsTo}
 use Rattle.qd_stream.proofs.stripe.StreamStripe.apply.Goals as goal

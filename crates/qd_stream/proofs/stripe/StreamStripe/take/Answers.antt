@@ -1,6 +1,4 @@
-use Rattle.std.proofs.Common.{◌≡◌, ◌+◌, ◌-◌, ◌∷◌, ◌++◌, [], suc, length, ap, sym, ◌∙◌, subst, arith, length-append, List}
-use Rattle.qd_buffer.specs.Filled.{with_items}
-use Rattle.qd_stream.specs.declared.item.StreamItem.{StreamItem}
+use Rattle.std.proofs.Common.{◌≡◌, ◌+◌, ◌-◌, ◌∷◌, ◌++◌, [], suc, length, ap, ◌∙◌, subst, arith, length-append}
 use Rattle.qd_stream.specs.Steps.{GivesAll}
 use Rattle.qd_stream.proofs.WalkLaws.{gives-more, gives-none, gives-end, given-more, filled-end}
 use Rattle.qd_stream.proofs.stripe.StreamStripe.take.Goals as goal

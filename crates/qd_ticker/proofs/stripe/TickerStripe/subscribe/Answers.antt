@@ -1,6 +1,4 @@
-use Rattle.std.proofs.Common.{arith, ap, sym, ◌∙◌, ◌≤◌, length, subst}
-use Rattle.qd_table.specs.Tables.{slots_in}
-use Rattle.qd_ticker.specs.Stripes.{Shown, queue_at}
+use Rattle.std.proofs.Common.{arith, sym, ◌∙◌, ◌≤◌, subst}
 use Rattle.qd_ticker.specs.Steps.{HasRoom}
 use Rattle.qd_ticker.proofs.SoundLaws.{sound-subscribed}
 use Rattle.qd_ticker.proofs.stripe.TickerStripe.subscribe.Goals as goal

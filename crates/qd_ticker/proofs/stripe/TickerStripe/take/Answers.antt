@@ -1,4 +1,4 @@
-use Rattle.std.proofs.Common.{arith, ap, sym, refl, ◌∙◌, ◌-◌, ◌+◌, suc, ◌≡◌, length, length-append, [], ◌∷◌}
+use Rattle.std.proofs.Common.{arith, ap, refl, ◌∙◌, ◌-◌, ◌+◌, suc, ◌≡◌, length, length-append, [], ◌∷◌}
 use Rattle.qd_sub.specs.Logs.{after}
 use Rattle.qd_ticker.specs.Pending.{taken}
 use Rattle.qd_ticker.specs.Steps.{gift_acts}
