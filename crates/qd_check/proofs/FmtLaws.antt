@@ -7,8 +7,8 @@ use Rattle.qd_grammar.specs.declared.item.Mode.{Mode}
 use Rattle.qd_grammar.specs.declared.item.Mode.TheVariants.{File}
 use Rattle.qd_items.specs.declared.ends.TextEnd.{TextEnd}
 use Rattle.qd_items.specs.declared.ends.TextEnd.TheVariants.{End, CutOff, Bad, LineTooLong, TooMuch, ReadFault, NoMemory}
-use Rattle.qd_items.specs.declared.items.Next.{Next}
-use Rattle.qd_items.specs.declared.items.Next.TheVariants as nexts
+use Rattle.qd_items.specs.declared.items.NextItem.{NextItem}
+use Rattle.qd_items.specs.declared.items.NextItem.TheVariants as nexts
 use Rattle.qd_items.specs.Ends.{ComesNext, EndsAt, last_items}
 use Rattle.qd_items.specs.Judging.{Numbered, items_of, stop_of}
 use Rattle.qd_items.specs.Judging.Stop.{Open}
@@ -34,7 +34,7 @@ pub record IsPrinting (defs : List RecordDef) (o : Outside) (k : Kept) (held : L
   pub same : w.writes ≡ o.writes
 
 -- what the next call of a reader tells
-abbrev pub Told : List RecordDef → Outside → Kept → Outside → Next → Kept → Option (List ℕ) → ℕ → Type 0
+abbrev pub Told : List RecordDef → Outside → Kept → Outside → NextItem → Kept → Option (List ℕ) → ℕ → Type 0
 Told defs o k w next new left reads = (start : Option (List ℕ)) (p : Past) → IsRead defs start k p w.left → ComesNext defs start p next new left w.reads reads
 
 -- more is printed behind what is held back

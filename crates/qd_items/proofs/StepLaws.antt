@@ -15,8 +15,8 @@ use Rattle.qd_text.specs.Reading.{state_after}
 use Rattle.qd_text.specs.declared.reader.BadLine.{BadLine}
 use Rattle.qd_items.specs.declared.ends.TextEnd.{TextEnd}
 use Rattle.qd_items.specs.declared.ends.TextEnd.TheVariants.{End, CutOff, Bad, LineTooLong, TooMuch, ReadFault, NoMemory}
-use Rattle.qd_items.specs.declared.items.Next.{Next}
-use Rattle.qd_items.specs.declared.items.Next.TheVariants as nexts
+use Rattle.qd_items.specs.declared.items.NextItem.{NextItem}
+use Rattle.qd_items.specs.declared.items.NextItem.TheVariants as nexts
 use Rattle.qd_items.specs.Judging.{Numbered, is_end, said, items_of, state_of, stop_of, stop_with, with_said, or_first}
 use Rattle.qd_items.specs.Judging.Stop.{Open, AtBad}
 use Rattle.qd_items.specs.Standing.{Kept, Past, IsTaken, StandsFor, IsRead, opening, nothing}
@@ -267,7 +267,7 @@ ends_at defs start p k new was now before after NoMemory w (hungry, (bytes, took
     )
 
 -- a step that gives an item or an end
-pub comes_next : (defs : List RecordDef) (start : Option (List ℕ)) (p : Past) (k new : Kept) (was now : Option (List ℕ)) (before after : ℕ) (next : Next) → new.mode ≡ k.mode → WentOn defs start p k was
+pub comes_next : (defs : List RecordDef) (start : Option (List ℕ)) (p : Past) (k new : Kept) (was now : Option (List ℕ)) (before after : ℕ) (next : NextItem) → new.mode ≡ k.mode → WentOn defs start p k was
     → Steps defs k (Some next) new was now before after → ComesNext defs start p next new now before after
 comes_next defs start p k new was now before after (nexts.Item item) m w (line, j, e, other, same) =
     subst (λ (l : Option (List ℕ)). ComesNext defs start p (nexts.Item item) new l before after) (sym same.0)
@@ -292,7 +292,7 @@ step_less defs k new was now before after (inr r) =
     let within = r.within in
     rw (t, l) (omega (arith, n, some, within))
 
-pub next_less : (defs : List RecordDef) (k new : Kept) (was now : Option (List ℕ)) (before after : ℕ) (next : Next) → Steps defs k (Some next) new was now before after → Lowers next k new
+pub next_less : (defs : List RecordDef) (k new : Kept) (was now : Option (List ℕ)) (before after : ℕ) (next : NextItem) → Steps defs k (Some next) new was now before after → Lowers next k new
 unfolding work
 next_less defs k new was now before after (nexts.Item item) (line, j, e, other, same) =
     let n = ap length j.stood in
@@ -301,7 +301,7 @@ next_less defs k new was now before after (nexts.Item item) (line, j, e, other, 
     rw t (omega (arith, n, m))
 next_less defs k new was now before after (nexts.Ended end) s = tt
 
-pub lowers_more : (next : Next) (k mid new : Kept) → work mid ≤ work k → Lowers next mid new → Lowers next k new
+pub lowers_more : (next : NextItem) (k mid new : Kept) → work mid ≤ work k → Lowers next mid new → Lowers next k new
 lowers_more (nexts.Item item) k mid new l h = omega (arith, l, h)
 lowers_more (nexts.Ended end) k mid new l h = tt
 

@@ -9,8 +9,8 @@ use Rattle.qd_outside.specs.Reading.{Took, IsSpent}
 use Rattle.qd_scheme.specs.declared.defs.RecordDef.{RecordDef}
 use Rattle.qd_items.specs.declared.ends.TextEnd.{TextEnd}
 use Rattle.qd_items.specs.declared.ends.TextEnd.TheVariants.{End, CutOff, Bad, LineTooLong, TooMuch, ReadFault, NoMemory}
-use Rattle.qd_items.specs.declared.items.Next.{Next}
-use Rattle.qd_items.specs.declared.items.Next.TheVariants as nexts
+use Rattle.qd_items.specs.declared.items.NextItem.{NextItem}
+use Rattle.qd_items.specs.declared.items.NextItem.TheVariants as nexts
 use Rattle.qd_items.specs.Judging.{Numbered, items_of, Stop, stop_of, is_end}
 use Rattle.qd_items.specs.Judging.Stop.{Open, AtEnd, AtBad}
 use Rattle.qd_items.specs.Standing.{Kept, Past, IsTaken, IsRead}
@@ -60,7 +60,7 @@ EndsAt mode defs start p end lines left before after =
 
 -- from a past on: the next item, which is not END and stands on the line judged last; or the end. Lines that were skipped
 -- are passed over
-abbrev pub ComesNext : List RecordDef → Option (List ℕ) → Past → Next → Kept → Option (List ℕ) → ℕ → ℕ → Type 0
+abbrev pub ComesNext : List RecordDef → Option (List ℕ) → Past → NextItem → Kept → Option (List ℕ) → ℕ → ℕ → Type 0
 ComesNext defs start p (nexts.Item item) k left before after =
     (q : Past) × IsRead defs start k q left
     × ((more : List (List ℕ)) × (q.lines ≡ more ++ p.lines))

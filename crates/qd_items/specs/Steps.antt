@@ -8,8 +8,8 @@ use Rattle.qd_outside.specs.Reading.{Took, IsSpent}
 use Rattle.qd_scheme.specs.declared.defs.RecordDef.{RecordDef}
 use Rattle.qd_text.specs.Reading.{state_after}
 use Rattle.qd_items.specs.declared.ends.TextEnd.TheVariants.{End, CutOff, Bad, LineTooLong, TooMuch, ReadFault, NoMemory}
-use Rattle.qd_items.specs.declared.items.Next.{Next}
-use Rattle.qd_items.specs.declared.items.Next.TheVariants as nexts
+use Rattle.qd_items.specs.declared.items.NextItem.{NextItem}
+use Rattle.qd_items.specs.declared.items.NextItem.TheVariants as nexts
 use Rattle.qd_items.specs.Judging.{is_end, items_of, said}
 use Rattle.qd_items.specs.Standing.{Kept, Past, IsRead}
 
@@ -35,7 +35,7 @@ pub record Reads (k new : Kept) (was now : Option (List ℕ)) (before after : �
   pub same : after ≡ before
 
 -- a step: None where it went on
-abbrev pub Steps : List RecordDef → Kept → Option Next → Kept → Option (List ℕ) → Option (List ℕ) → ℕ → ℕ → Type 0
+abbrev pub Steps : List RecordDef → Kept → Option NextItem → Kept → Option (List ℕ) → Option (List ℕ) → ℕ → ℕ → Type 0
 Steps defs k None new was now before after =
     ((line : List ℕ) × Judges defs k new line × (said k.mode defs k.state line ≡ Ok None) × IsSame was now before after)
     ⊎ Reads k new was now before after

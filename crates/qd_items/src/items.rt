@@ -22,7 +22,7 @@ const MOST_BYTES: u64 = 1 << 40;
 
 /// What comes next of a text.
 #[derive(Clone, Copy, Debug)]
-pub enum Next {
+pub enum NextItem {
     /// An item other than END.
     Item(Item),
     Ended(TextEnd),
@@ -102,7 +102,7 @@ impl Items {
 
     /// The next item, or the end. Reads as often as it must, and passes skipped lines over. After an end nothing is told
     /// of another call.
-    pub fn next<S: Source>(&mut self, scheme: &Scheme, source: &mut S) -> Next
+    pub fn next<S: Source>(&mut self, scheme: &Scheme, source: &mut S) -> NextItem
         ensures mode { self.new.mode ≡ self.old.mode }
         ensures kept { S.kept source.new ≡ S.kept source.old }
         ensures work { Lowers result self.old self.new }
@@ -110,8 +110,8 @@ impl Items {
             → ComesNext scheme.now start p result self.new (S.left source.new) (S.faults source.old) (S.faults source.new) }
     {
         match self.advance(scheme, source) {
-            None => Next::Item(self.item),
-            Some(end) => Next::Ended(end),
+            None => NextItem::Item(self.item),
+            Some(end) => NextItem::Ended(end),
         }
     }
 

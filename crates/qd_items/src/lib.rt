@@ -16,5 +16,5 @@ mod laws;
 mod tests;
 
 pub use ends::{Limit, RunEnd, TextEnd};
-pub use items::{Items, Next};
+pub use items::{Items, NextItem};
 pub use laws::{decided_end, decided_lines, one_end, some_end};

@@ -1,4 +1,4 @@
-use crate::{Items, Next, RunEnd, TextEnd};
+use crate::{Items, NextItem, RunEnd, TextEnd};
 use qd_outside::SoundSource;
 use qd_scheme::Scheme;
 use qd_text::{BadLine, Mode, Why};
@@ -21,8 +21,8 @@ fn read(alloc: Global, mode: Mode, text: &[u8]) -> Result<Found, AllocError> {
     let mut line = 0;
     for count in 0..1000u64 {
         match items.next(&scheme, &mut source) {
-            Next::Item(_) => line = items.line(),
-            Next::Ended(end) => {
+            NextItem::Item(_) => line = items.line(),
+            NextItem::Ended(end) => {
                 return Ok(Found {
                     items: count,
                     line,

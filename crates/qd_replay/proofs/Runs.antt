@@ -10,7 +10,7 @@ use Rattle.qd_items.specs.declared.ends.RunEnd.{RunEnd}
 use Rattle.qd_items.specs.declared.ends.RunEnd.TheVariants as ends
 use Rattle.qd_items.specs.declared.ends.TextEnd.{TextEnd}
 use Rattle.qd_items.specs.declared.ends.TextEnd.TheVariants as texts
-use Rattle.qd_items.specs.declared.items.Next.TheVariants as nexts
+use Rattle.qd_items.specs.declared.items.NextItem.TheVariants as nexts
 use Rattle.qd_items.specs.Ends.{ComesNext, last_items}
 use Rattle.qd_items.specs.Judging.{Numbered, items_of, stop_of}
 use Rattle.qd_items.specs.Judging.Stop.{Open}

@@ -2,7 +2,7 @@
 ghost use Rattle.std.specs.Prelude.{◌≡◌, ◌≤◌, Some, [], IfOk};
 ghost use Rattle.qd_replay.specs.Calls.{empty_of};
 
-use crate::output::Shown;
+use crate::output::Printable;
 use crate::stripes::{Stripes, events_of, items_of};
 use qd_buffer::Buffer;
 use qd_grammar::Collector;
@@ -24,7 +24,7 @@ pub struct Spares {
 }
 
 /// An item that a collector gives.
-pub trait Given: Shown {
+pub trait Given: Printable {
     ghost use Rattle.std.specs.Prelude.{◌≡◌, ◌≤◌, ℕ, Option, Some};
     ghost use Rattle.std.specs.Option.{option_map};
     ghost use Rattle.qd_buffer.specs.Filled.{Filled};

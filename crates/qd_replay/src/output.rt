@@ -16,7 +16,7 @@ use std::alloc::Global;
 use std::marker::Model;
 
 /// An item that a collector gives, with the message that it belongs to.
-pub trait Shown: Copy {
+pub trait Printable: Copy {
     ghost use Rattle.std.specs.Prelude.{◌≡◌};
     ghost use Rattle.qd_replay.specs.Replies.{ReplyItem};
 
@@ -29,7 +29,7 @@ pub trait Shown: Copy {
         ensures { result ≡ (shown self.now).item };
 }
 
-impl Shown for Record {
+impl Printable for Record {
     ghost use Rattle.qd_replay.specs.Replies.{ticker_item};
 
     ghost shown = { ticker_item };
@@ -43,7 +43,7 @@ impl Shown for Record {
     }
 }
 
-impl Shown for StreamItem {
+impl Printable for StreamItem {
     ghost use Rattle.qd_replay.specs.Replies.{stream_item};
 
     ghost shown = { stream_item };
@@ -63,7 +63,7 @@ impl Shown for StreamItem {
     }
 }
 
-impl Shown for HistItem {
+impl Printable for HistItem {
     ghost use Rattle.qd_replay.specs.Replies.{history_item};
 
     ghost shown = { history_item };
@@ -215,7 +215,7 @@ impl Output {
     }
 
     /// Prints items with their heads.
-    fn items<T: Shown, K: Sink>(&mut self, scheme: &Scheme, items: &[T], sink: &mut K) -> bool
+    fn items<T: Printable, K: Sink>(&mut self, scheme: &Scheme, items: &[T], sink: &mut K) -> bool
         ensures { Prints result (items_text scheme.now None (map T.shown items.now)) self.old self.new (K.written sink.old) (K.written sink.new) (K.faults sink.old) (K.faults sink.new) }
     {
         let mut last = None;
@@ -239,7 +239,7 @@ impl Output {
     }
 
     /// Prints a reply: its mark, its items, and the heartbeat.
-    pub fn reply<T: Shown, K: Sink>(
+    pub fn reply<T: Printable, K: Sink>(
         &mut self,
         scheme: &Scheme,
         link: u8,

@@ -3,8 +3,8 @@ use Rattle.std.proofs.Common.{◌≡◌, ℕ, Bool, true, false, cond, List, [],
 use Rattle.std.specs.Prelude.{Option, Some, None, option_map, option_and_then, option_to_list, nat_eq, ◌&&◌}
 use Rattle.std.specs.Cmp.Lexicographic.{pointwise}
 use Rattle.qd_words.specs.declared.ask.Command.{Command}
-use Rattle.qd_words.specs.declared.ask.Name.{Name}
-use Rattle.qd_words.specs.declared.ask.Name.TheVariants.{Scheme, Cap, Hcap}
+use Rattle.qd_words.specs.declared.ask.OptionName.{OptionName}
+use Rattle.qd_words.specs.declared.ask.OptionName.TheVariants.{Scheme, Cap, Hcap}
 use Rattle.qd_words.specs.Words.{same_text, is_option, end_of_options, name_in, value_in, Argument, before, cut, cut_option}
 use Rattle.qd_words.specs.Words.Argument.{Named, Positional}
 use Rattle.qd_words.specs.Asking.{Asked, command_of, name_text, name_of, values_of, positional, are_known, at_most_one, asked_for, asked_by, asks}
@@ -22,7 +22,7 @@ same_texts [] (b ∷ y) e = cc
 same_texts (a ∷ x) [] e = cc
 same_texts (a ∷ x) (b ∷ y) e = let f = same_first a b (nat_eq a b) (pointwise nat_eq x y) refl e in let h : a ≡ b = f.0 in let k : x ≡ y = same_texts x y f.1 in cc
 
-named_by : (word : List ℕ) (t u v : Bool) (name : Name)
+named_by : (word : List ℕ) (t u v : Bool) (name : OptionName)
     → same_text word (name_text Scheme) ≡ t → same_text word (name_text Cap) ≡ u → same_text word (name_text Hcap) ≡ v
     → cond t (Some Scheme) (cond u (Some Cap) (cond v (Some Hcap) None)) ≡ Some name → word ≡ name_text name
 named_by word true u v name p q r e = let n : name ≡ Scheme = cc in rw n (same_texts word (name_text Scheme) p)
@@ -31,22 +31,22 @@ named_by word false false true name p q r e = let n : name ≡ Hcap = cc in rw n
 named_by word false false false name p q r e = absurd (cc)
 
 -- a word that names an option is its name
-pub named : (word : List ℕ) (name : Name) → name_of word ≡ Some name → word ≡ name_text name
+pub named : (word : List ℕ) (name : OptionName) → name_of word ≡ Some name → word ≡ name_text name
 named word name e = named_by word (same_text word (name_text Scheme)) (same_text word (name_text Cap)) (same_text word (name_text Hcap)) name refl refl refl e
 
 -- the name of an option names it
-pub naming : (name : Name) → name_of (name_text name) ≡ Some name
+pub naming : (name : OptionName) → name_of (name_text name) ≡ Some name
 naming Scheme = refl
 naming Cap = refl
 naming Hcap = refl
 
-abbrev pub state : ShownValues → Option (List ℕ) → Option Name → Bool → Shown
+abbrev pub state : ShownValues → Option (List ℕ) → Option OptionName → Bool → Shown
 state values word waiting ended = record { values = values; word = word; waiting = waiting; ended = ended }
 
 -- what arguments ask of a command behind these values
 abbrev pub asked_behind : Command → ShownValues → Option (List ℕ) → List Argument → Option Asked
 asked_behind command values word arguments =
-    cond (are_known arguments) (asked_for command (λ (name : Name). option_to_list (value_of values name) ++ values_of (name_text name) arguments) (option_to_list word ++ positional arguments)) None
+    cond (are_known arguments) (asked_for command (λ (name : OptionName). option_to_list (value_of values name) ++ values_of (name_text name) arguments) (option_to_list word ++ positional arguments)) None
 
 nothing_asked : {A : Type 0} (f : A → Option Asked) (o : Option A) → ((a : A) → f a ≡ None) → option_and_then f o ≡ None
 nothing_asked f None h = refl
@@ -66,7 +66,7 @@ never true asked h = h
 never false asked h = refl
 
 -- two positional words are one too many
-two_words : (command : Command) (values : Name → List (List ℕ)) (x y : List ℕ) (more : List (List ℕ)) → asked_for command values (x ∷ y ∷ more) ≡ None
+two_words : (command : Command) (values : OptionName → List (List ℕ)) (x y : List ℕ) (more : List (List ℕ)) → asked_for command values (x ∷ y ∷ more) ≡ None
 two_words command values x y more =
     nothing_asked _ (at_most_one (values Scheme)) (λ scheme. nothing_asked _ (at_most_one (values Cap)) (λ limit. nothing_asked _ (at_most_one (values Hcap)) (λ owed. refl)))
 
@@ -74,10 +74,10 @@ two_words command values x y more =
 word_more : (command : Command) (values : ShownValues) (word : Option (List ℕ)) (next : List ℕ) (arguments : List Argument)
     → asked_behind command values word (Positional next ∷ arguments) ≡ option_and_then (λ (g : Shown). asked_behind command g.values g.word arguments) (with_positional (state values word None false) next)
 word_more command values None next arguments = refl
-word_more command values (Some x) next arguments = never (are_known arguments) _ (two_words command (λ (name : Name). option_to_list (value_of values name) ++ values_of (name_text name) arguments) x next (positional arguments))
+word_more command values (Some x) next arguments = never (are_known arguments) _ (two_words command (λ (name : OptionName). option_to_list (value_of values name) ++ values_of (name_text name) arguments) x next (positional arguments))
 
 -- one value more, of the option of this name
-value_added : (command : Command) (values : ShownValues) (word : Option (List ℕ)) (name : Name) (value : List ℕ) (arguments : List Argument) (was : Option (List ℕ)) → value_of values name ≡ was
+value_added : (command : Command) (values : ShownValues) (word : Option (List ℕ)) (name : OptionName) (value : List ℕ) (arguments : List Argument) (was : Option (List ℕ)) → value_of values name ≡ was
     → asked_behind command values word (Named (name_text name) value ∷ arguments) ≡ option_and_then (λ (v : ShownValues). asked_behind command v word arguments) (with_value values name value)
 value_added command values word Scheme value arguments None e = rw e refl
 value_added command values word Cap value arguments None e = rw e refl
@@ -89,7 +89,7 @@ value_added command values word Hcap value arguments (Some x) e =
     rw e (never (are_known arguments) _ (nothing_asked _ (at_most_one (option_to_list values.scheme ++ values_of (name_text Scheme) arguments)) (λ scheme.
     nothing_asked _ (at_most_one (option_to_list values.cap ++ values_of (name_text Cap) arguments)) (λ limit. refl))))
 
-value_more : (command : Command) (values : ShownValues) (word : Option (List ℕ)) (text value : List ℕ) (name : Name) (arguments : List Argument) → name_of text ≡ Some name
+value_more : (command : Command) (values : ShownValues) (word : Option (List ℕ)) (text value : List ℕ) (name : OptionName) (arguments : List Argument) → name_of text ≡ Some name
     → asked_behind command values word (Named text value ∷ arguments) ≡ option_and_then (λ (v : ShownValues). asked_behind command v word arguments) (with_value values name value)
 value_more command values word text value name arguments e =
     ap (λ (t : List ℕ). asked_behind command values word (Named t value ∷ arguments)) (named text name e) ∙ value_added command values word name value arguments (value_of values name) refl
@@ -115,7 +115,7 @@ ended command values (Some x) (w ∷ words) = word_more command values (Some x) 
 -- what the rest of the words asks for, where an option may wait
 abbrev pub Goes : Command → List (List ℕ) → Type 0
 Goes command words =
-    (values : ShownValues) (word : Option (List ℕ)) (waiting : Option Name)
+    (values : ShownValues) (word : Option (List ℕ)) (waiting : Option OptionName)
     → option_and_then (asked_behind command values word) (cut (option_map name_text waiting) words) ≡ option_and_then (finished command) (given_by (state values word waiting false) words)
 
 -- a positional word, and the rest
@@ -133,7 +133,7 @@ goes_on command words word None h = nothing_asked _ (cut None words) (λ argumen
 goes_on command words word (Some v) h = h v word None
 
 -- a value, and the rest
-goes_value : (command : Command) (text value : List ℕ) (name : Name) (words : List (List ℕ)) (values : ShownValues) (word : Option (List ℕ)) → Goes command words → name_of text ≡ Some name
+goes_value : (command : Command) (text value : List ℕ) (name : OptionName) (words : List (List ℕ)) (values : ShownValues) (word : Option (List ℕ)) → Goes command words → name_of text ≡ Some name
     → option_and_then (asked_behind command values word) (before (Named text value) (cut None words))
     ≡ option_and_then (finished command) (option_and_then (λ (g : Shown). given_by g words) (with_option_value (state values word None false) name value))
 goes_value command text value name words values word h e =
@@ -157,7 +157,7 @@ waits_for_nothing command name (w ∷ words) values word e = go (is_option w)
     go false = goes_nowhere command name w words values word e
 
 -- an option, with its value where it has one
-goes_option : (command : Command) (w : List ℕ) (words : List (List ℕ)) (values : ShownValues) (word : Option (List ℕ)) → Goes command words → (value : Option (List ℕ)) → value_in w ≡ value → (known : Option Name) → name_of (name_in w) ≡ known
+goes_option : (command : Command) (w : List ℕ) (words : List (List ℕ)) (values : ShownValues) (word : Option (List ℕ)) → Goes command words → (value : Option (List ℕ)) → value_in w ≡ value → (known : Option OptionName) → name_of (name_in w) ≡ known
     → option_and_then (asked_behind command values word) (cut_option w value (cut None words) (cut (Some w) words))
     ≡ option_and_then (finished command) (option_and_then (λ (g : Shown). given_by g words) (option_and_then (with_named (state values word None false) value) known))
 goes_option command w words values word h (Some value) v (Some name) e = goes_value command (name_in w) value name words values word h e
@@ -177,7 +177,7 @@ goes_open command w words values word h false true = goes_option command w words
 goes_open command w words values word h false false = goes_word command w words values word h
 
 -- the value of an option that waits
-goes_waiting : (command : Command) (w : List ℕ) (name : Name) (words : List (List ℕ)) (values : ShownValues) (word : Option (List ℕ)) → Goes command words → (option : Bool)
+goes_waiting : (command : Command) (w : List ℕ) (name : OptionName) (words : List (List ℕ)) (values : ShownValues) (word : Option (List ℕ)) → Goes command words → (option : Bool)
     → option_and_then (asked_behind command values word) (cond option None (before (Named (name_text name) w) (cut None words)))
     ≡ option_and_then (finished command) (option_and_then (λ (g : Shown). given_by g words) (cond option None (with_option_value (state values word None false) name w)))
 goes_waiting command w name words values word h true = refl

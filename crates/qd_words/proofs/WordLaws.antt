@@ -3,7 +3,7 @@ use Rattle.std.proofs.Common.{◌≡◌, ℕ, ◌<◌, Bool, true, false, cond, 
 use Rattle.std.specs.Prelude.{◌==◌, ◌&&◌, nat_eq, nat_lt, Some, None, is_some}
 use Rattle.std.proofs.lemmas.Bool.Decides.{nat_tests}
 use Rattle.qd_words.specs.declared.ask.Command.{Command}
-use Rattle.qd_words.specs.declared.ask.Name.TheVariants.{Scheme, Cap, Hcap}
+use Rattle.qd_words.specs.declared.ask.OptionName.TheVariants.{Scheme, Cap, Hcap}
 use Rattle.qd_words.specs.Words.{same_text, is_option, end_of_options, name_in, value_in, IsName, Argument, before, cut, arguments}
 use Rattle.qd_words.specs.Words.Argument.{Named, Positional}
 use Rattle.qd_words.specs.Asking.{name_text, name_of, values_of, positional, are_known, asked_by}

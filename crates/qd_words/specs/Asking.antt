@@ -5,8 +5,8 @@ use Rattle.qd_decimal.specs.Reading.{count_of}
 use Rattle.qd_words.specs.declared.ask.Command.{Command}
 use Rattle.qd_words.specs.declared.ask.Command.TheVariants.{Check, Fmt, Replay}
 use Rattle.qd_words.specs.declared.ask.Ask.{Ask}
-use Rattle.qd_words.specs.declared.ask.Name.{Name}
-use Rattle.qd_words.specs.declared.ask.Name.TheVariants.{Scheme, Cap, Hcap}
+use Rattle.qd_words.specs.declared.ask.OptionName.{OptionName}
+use Rattle.qd_words.specs.declared.ask.OptionName.TheVariants.{Scheme, Cap, Hcap}
 use Rattle.qd_words.specs.Words.{same_text, Argument, arguments}
 use Rattle.qd_words.specs.Words.Argument.{Named, Positional}
 
@@ -31,12 +31,12 @@ command_of word =
     None
 
 -- the names of the options
-abbrev pub name_text : Name → List ℕ
+abbrev pub name_text : OptionName → List ℕ
 name_text Scheme = codes "--scheme"
 name_text Cap = codes "--cap"
 name_text Hcap = codes "--hcap"
 
-abbrev pub name_of : List ℕ → Option Name
+abbrev pub name_of : List ℕ → Option OptionName
 name_of word =
     if same_text word (codes "--scheme") then Some Scheme else
     if same_text word (codes "--cap") then Some Cap else
@@ -99,7 +99,7 @@ with_values command scheme cap hcap word = do
   Some (record { command = command; file = file_of word; scheme = scheme; cap = size; hcap = owed })
 
 -- what the values of the options and the positional words ask of a command: each stands once at most
-abbrev pub asked_for : Command → (Name → List (List ℕ)) → List (List ℕ) → Option Asked
+abbrev pub asked_for : Command → (OptionName → List (List ℕ)) → List (List ℕ) → Option Asked
 asked_for command values words = do
   scheme ← at_most_one (values Scheme)
   limit ← at_most_one (values Cap)

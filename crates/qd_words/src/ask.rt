@@ -25,7 +25,7 @@ pub struct Ask<'a> {
 
 /// An option.
 #[derive(Clone, Copy, Debug, PartialEq, Eq)]
-pub enum Name {
+pub enum OptionName {
     Scheme,
     Cap,
     Hcap,

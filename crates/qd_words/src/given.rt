@@ -3,7 +3,7 @@ ghost use Rattle.qd_words.specs.Words.{same_text, is_option, end_of_options, nam
 ghost use Rattle.qd_words.specs.Asking.{name_of};
 ghost use Rattle.qd_words.specs.Given.{shown, nothing, with_option_value, with_positional, with_option, with_waited, with_word};
 
-use crate::ask::Name;
+use crate::ask::OptionName;
 use crate::values::Values;
 
 /// What the words so far give: the values of the options, the positional word, the option that waits for its value, and
@@ -12,7 +12,7 @@ use crate::values::Values;
 pub struct Given<'a> {
     pub values: Values<'a>,
     pub word: Option<&'a str>,
-    pub waiting: Option<Name>,
+    pub waiting: Option<OptionName>,
     pub ended: bool,
 }
 
@@ -79,7 +79,7 @@ impl<'a> Given<'a> {
     }
 
     /// The value of an option.
-    fn with_value(self, name: Name, value: &'a str) -> Option<Given<'a>>
+    fn with_value(self, name: OptionName, value: &'a str) -> Option<Given<'a>>
         ensures { option_map shown result ≡ with_option_value (shown self.entry) name value.now }
     {
         let values = self.values.with_value(name, value)?;
@@ -87,7 +87,7 @@ impl<'a> Given<'a> {
     }
 
     /// The value that an option waited for.
-    fn with_waited(self, name: Name, value: &'a str) -> Option<Given<'a>>
+    fn with_waited(self, name: OptionName, value: &'a str) -> Option<Given<'a>>
         ensures { option_map shown result ≡ with_waited (shown self.entry) name value.now }
     {
         if is_option(value) {
@@ -125,16 +125,16 @@ fn is_option(word: &str) -> bool
     bytes.len() > 1 && bytes[0] == b'-'
 }
 
-fn name_of(word: &str) -> Option<Name>
+fn name_of(word: &str) -> Option<OptionName>
     ensures { result ≡ name_of word.now }
 {
     let name = word.as_bytes();
     if name == b"--scheme".as_slice() {
-        Some(Name::Scheme)
+        Some(OptionName::Scheme)
     } else if name == b"--cap".as_slice() {
-        Some(Name::Cap)
+        Some(OptionName::Cap)
     } else if name == b"--hcap".as_slice() {
-        Some(Name::Hcap)
+        Some(OptionName::Hcap)
     } else {
         None
     }

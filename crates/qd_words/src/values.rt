@@ -1,7 +1,7 @@
 ghost use Rattle.std.specs.Prelude.{◌≡◌, Some, option_map};
 ghost use Rattle.qd_words.specs.Given.{no_values, shown_values, value_of, with_set, with_value};
 
-use crate::ask::Name;
+use crate::ask::OptionName;
 
 /// The values of the options so far.
 #[derive(Clone, Copy)]
@@ -24,7 +24,7 @@ impl<'a> Values<'a> {
     }
 
     /// One value more; none where the option has one.
-    pub fn with_value(self, name: Name, value: &'a str) -> Option<Values<'a>>
+    pub fn with_value(self, name: OptionName, value: &'a str) -> Option<Values<'a>>
         ensures { option_map shown_values result ≡ with_value (shown_values self.entry) name value.now }
     {
         match self.value_of(name) {
@@ -33,29 +33,29 @@ impl<'a> Values<'a> {
         }
     }
 
-    fn value_of(self, name: Name) -> Option<&'a str>
+    fn value_of(self, name: OptionName) -> Option<&'a str>
         ensures { option_map (λ s. s.now) result ≡ value_of (shown_values self.entry) name }
     {
         match name {
-            Name::Scheme => self.scheme,
-            Name::Cap => self.cap,
-            Name::Hcap => self.hcap,
+            OptionName::Scheme => self.scheme,
+            OptionName::Cap => self.cap,
+            OptionName::Hcap => self.hcap,
         }
     }
 
-    fn with_set(self, name: Name, value: &'a str) -> Values<'a>
+    fn with_set(self, name: OptionName, value: &'a str) -> Values<'a>
         ensures { shown_values result ≡ with_set (shown_values self.entry) name value.now }
     {
         match name {
-            Name::Scheme => Values {
+            OptionName::Scheme => Values {
                 scheme: Some(value),
                 ..self
             },
-            Name::Cap => Values {
+            OptionName::Cap => Values {
                 cap: Some(value),
                 ..self
             },
-            Name::Hcap => Values {
+            OptionName::Hcap => Values {
                 hcap: Some(value),
                 ..self
             },

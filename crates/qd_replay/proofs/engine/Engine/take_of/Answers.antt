@@ -14,7 +14,7 @@ returns-then-not-show-clause-takes g c =
     let link = ap (λ (k : Kept). k.script.link) c.self.view_is in
     let held = ap (λ (k : Kept). k.held) c.self.view_is in
     λ item line o caps done at.
-    taken_short _ (given_text g.T.Shown.shown g.T.Given.giver c.args.self.now.script.link c.in-Some.items) _ _ _ _ _ _ _ _ _ _ _ _
+    taken_short _ (given_text g.T.Printable.shown g.T.Given.giver c.args.self.now.script.link c.in-Some.items) _ _ _ _ _ _ _ _ _ _ _ _
     (rw (c.current_link.ensures, link) at c.in-Some.ensures) (rw (link, held) at c.if-not-show.ensures.printed) at
 
 pub returns-else-not-show-clause-takes : goal.returns-else-not-show-clause-takes
@@ -22,5 +22,5 @@ returns-else-not-show-clause-takes g c =
     let link = ap (λ (k : Kept). k.script.link) c.self.view_is in
     let held = ap (λ (k : Kept). k.held) c.self.view_is in
     λ o caps done at.
-    taken _ (given_text g.T.Shown.shown g.T.Given.giver c.args.self.now.script.link c.in-Some.items) _ _ _ _ _ _ _ _ _
+    taken _ (given_text g.T.Printable.shown g.T.Given.giver c.args.self.now.script.link c.in-Some.items) _ _ _ _ _ _ _ _ _
     (rw (c.current_link.ensures, link) at c.in-Some.ensures) (rw (link, held) at c.if-not-show.ensures.printed) at

@@ -10,16 +10,16 @@ returns-then-not-mark g c = printed_less (mark c.args.link c.args.collector) _ c
 
 pub returns-then-not-items : goal.returns-then-not-items
 unfolding reply_text
-returns-then-not-items g c = printed_less_after (mark c.args.link c.args.collector) (items_text c.args.scheme.now None (map g.T.Shown.shown c.args.items.now)) (line_of c.args.scheme.now Heartbeat) c.args.self.now c.mark.new.self c.items.new.self
+returns-then-not-items g c = printed_less_after (mark c.args.link c.args.collector) (items_text c.args.scheme.now None (map g.T.Printable.shown c.args.items.now)) (line_of c.args.scheme.now Heartbeat) c.args.self.now c.mark.new.self c.items.new.self
     (g.K.Sink.written c.args.sink.now) (g.K.Sink.written c.mark.new.sink) (g.K.Sink.written c.items.new.sink) (g.K.Sink.faults c.args.sink.now) (g.K.Sink.faults c.mark.new.sink) (g.K.Sink.faults c.items.new.sink)
     c.if-not-mark.ensures c.if-not-items.ensures
 
 pub returns : goal.returns
 unfolding reply_text
 returns g c =
-    printed_more c.say.result (mark c.args.link c.args.collector) (items_text c.args.scheme.now None (map g.T.Shown.shown c.args.items.now) ++ line_of c.args.scheme.now Heartbeat) c.args.self.now c.mark.new.self c.say.new.self
+    printed_more c.say.result (mark c.args.link c.args.collector) (items_text c.args.scheme.now None (map g.T.Printable.shown c.args.items.now) ++ line_of c.args.scheme.now Heartbeat) c.args.self.now c.mark.new.self c.say.new.self
     (g.K.Sink.written c.args.sink.now) (g.K.Sink.written c.mark.new.sink) (g.K.Sink.written c.say.new.sink) (g.K.Sink.faults c.args.sink.now) (g.K.Sink.faults c.mark.new.sink) (g.K.Sink.faults c.say.new.sink)
     c.if-not-mark.ensures
-    (printed_more c.say.result (items_text c.args.scheme.now None (map g.T.Shown.shown c.args.items.now)) (line_of c.args.scheme.now Heartbeat) c.mark.new.self c.items.new.self c.say.new.self
+    (printed_more c.say.result (items_text c.args.scheme.now None (map g.T.Printable.shown c.args.items.now)) (line_of c.args.scheme.now Heartbeat) c.mark.new.self c.items.new.self c.say.new.self
     (g.K.Sink.written c.mark.new.sink) (g.K.Sink.written c.items.new.sink) (g.K.Sink.written c.say.new.sink) (g.K.Sink.faults c.mark.new.sink) (g.K.Sink.faults c.items.new.sink) (g.K.Sink.faults c.say.new.sink)
     c.if-not-items.ensures c.say.ensures)
