@@ -1,5 +1,7 @@
 //! Worked examples of a table.
 
+ghost use Rattle.std.specs.Prelude.{◌≡◌, ◌≤◌, []};
+
 use crate::{SubFault, SubTable};
 use qd_buffer::Buffer;
 use qd_scheme::{AgentNo, Key, Sym, WatcherNo};
@@ -20,6 +22,11 @@ fn agent(rt: &impl Abort, number: u8) -> AgentNo {
     AgentNo::of(number).expect(rt, "an agent")
 }
 
+fn sub(rt: &impl Abort, number: u32, limit: u64) -> Sub {
+    let key = key(rt, number);
+    Sub { key, limit }
+}
+
 /// Subscriptions to so many keys, from one on.
 fn subs(
     rt: &impl Abort,
@@ -30,8 +37,7 @@ fn subs(
 ) -> Result<Vec<Sub>, AllocError> {
     let mut subs = Vec::new(alloc);
     for i in 0..count {
-        let key = key(rt, first.saturating_add(i));
-        subs.push(Sub { key, limit })?;
+        subs.push(sub(rt, first.saturating_add(i), limit))?;
     }
     Ok(subs)
 }
@@ -60,15 +66,30 @@ fn add_one(
 
 /// Ends an agent's subscription to a key, and says whether the key became unwanted.
 fn remove(rt: &impl Abort, table: &mut SubTable, number: u8, which: u32, keep: bool) -> bool {
-    table.remove(agent(rt, number), &key(rt, which), keep)
+    let agent = agent(rt, number);
+    let key = key(rt, which);
+    table.remove(agent, &key, keep)
+}
+
+fn watcher(rt: &impl Abort) -> WatcherNo {
+    WatcherNo::of(0).expect(rt, "a watcher")
+}
+
+fn first(told: &[Want]) -> Option<Want> {
+    told.first().copied()
+}
+
+fn watch(table: &mut SubTable, watcher: WatcherNo, out: &mut Buffer<Want>)
+    requires { (out.old.items ≡ []) × (10 ≤ out.old.room) }
+{
+    table.watch(watcher, 10, out);
 }
 
 /// What watcher 0 is told first.
 fn told(rt: &impl Abort, alloc: Global, table: &mut SubTable) -> Result<Option<Want>, AllocError> {
-    let watcher = WatcherNo::of(0).expect(rt, "a watcher");
     let mut out = Buffer::with_room(alloc, 10)?;
-    table.watch(watcher, 10, &mut out);
-    Ok(out.get(0).copied())
+    watch(table, watcher(rt), &mut out);
+    Ok(first(out.as_slice()))
 }
 
 /// What happens to key 7, or what watcher 0 is told of it, if it is told anything.
@@ -139,12 +160,32 @@ fn table_of_two(rt: &impl Abort, alloc: Global) -> Result<SubTable, AllocError> 
 fn a_table_tells_limits_agents_and_totals(rt: HostRuntime) -> Result<(), Fail> {
     let table = table_of_two(&rt, rt.alloc())?;
     let seven = key(&rt, 7);
-    assert_eq!(rt; table.first_of(agent(&rt, 1)), Some(seven));
-    assert_eq!(rt; table.limit_of(agent(&rt, 1), &seven), Some(10));
-    assert_eq!(rt; table.agents_of(&seven), 0b10_0010);
-    assert_eq!(rt; table.total(&seven), Some(3));
-    assert_eq!(rt; table.total(&key(&rt, 9)), None);
+    tells_first(&rt, &table);
+    tells_limit(&rt, &table, &seven);
+    tells_agents(&rt, &table, &seven);
+    tells_total(&rt, &table, &seven);
+    tells_none(&rt, &table);
     Ok(())
+}
+
+fn tells_first(rt: &impl Abort, table: &SubTable) {
+    assert_eq!(rt; table.first_of(agent(rt, 1)), Some(key(rt, 7)));
+}
+
+fn tells_limit(rt: &impl Abort, table: &SubTable, seven: &Key) {
+    assert_eq!(rt; table.limit_of(agent(rt, 1), seven), Some(10));
+}
+
+fn tells_agents(rt: &impl Abort, table: &SubTable, seven: &Key) {
+    assert_eq!(rt; table.agents_of(seven), 0b10_0010);
+}
+
+fn tells_total(rt: &impl Abort, table: &SubTable, seven: &Key) {
+    assert_eq!(rt; table.total(seven), Some(3));
+}
+
+fn tells_none(rt: &impl Abort, table: &SubTable) {
+    assert_eq!(rt; table.total(&key(rt, 9)), None);
 }
 
 #[test]
@@ -169,33 +210,47 @@ fn a_close_ends_all_subscriptions_of_an_agent(rt: HostRuntime) -> Result<(), Fai
     Ok(())
 }
 
-/// Subscribes agent 0 to so many keys, at most 4,096 at a time.
-fn fill(rt: &impl Abort, alloc: Global, table: &mut SubTable, keys: u32) -> Result<(), AllocError> {
-    for i in 0..4u32 {
-        let first = 4096 * i;
-        let count = keys.saturating_sub(first).min(4096);
-        let subs = subs(rt, alloc, first, count, 1)?;
-        assert_eq!(rt; add(rt, table, 0, subs.as_slice()), Ok(()));
-    }
+/// Subscribes agent 0 to so many keys, from one on.
+fn add_some(
+    rt: &impl Abort,
+    alloc: Global,
+    table: &mut SubTable,
+    first: u32,
+    count: u32,
+) -> Result<(), AllocError> {
+    let subs = subs(rt, alloc, first, count, 1)?;
+    let added = add(rt, table, 0, subs.as_slice());
+    assert_eq!(rt; added, Ok(()));
     Ok(())
+}
+
+/// A table where agent 0 is subscribed to 16,383 keys, which were added at most 4,096 at a time.
+fn full_but_one(rt: &impl Abort, alloc: Global) -> Result<SubTable, AllocError> {
+    let mut table = SubTable::new(alloc)?;
+    add_some(rt, alloc, &mut table, 0, 4096)?;
+    add_some(rt, alloc, &mut table, 4096, 4096)?;
+    add_some(rt, alloc, &mut table, 8192, 4096)?;
+    add_some(rt, alloc, &mut table, 12_288, 4095)?;
+    Ok(table)
+}
+
+/// What is said of an Add by agent 1 that names number 16,383 twice.
+fn add_twice(rt: &impl Abort, table: &mut SubTable) -> Result<(), SubFault> {
+    let first = sub(rt, 16_383, 1);
+    let second = sub(rt, 16_383, 2);
+    add(rt, table, 1, &[first, second])
+}
+
+/// What is said of an Add by agent 1 of one more key.
+fn add_one_more(rt: &impl Abort, table: &mut SubTable) -> Result<(), SubFault> {
+    add(rt, table, 1, &[sub(rt, 16_384, 1)])
 }
 
 #[test]
 fn at_most_16384_different_keys_are_held(rt: HostRuntime) -> Result<(), Fail> {
-    let alloc = rt.alloc();
-    let mut table = SubTable::new(alloc)?;
-    fill(&rt, alloc, &mut table, 16_383)?;
-    let mut twice = subs(&rt, alloc, 16_383, 1, 1)?;
-    twice.push(Sub {
-        key: key(&rt, 16_383),
-        limit: 2,
-    })?;
-    assert_eq!(rt; add(&rt, &mut table, 1, twice.as_slice()), Ok(()));
-    let one = subs(&rt, alloc, 16_384, 1, 1)?;
-    assert_eq!(rt;
-        add(&rt, &mut table, 1, one.as_slice()),
-        Err(SubFault::TooManyKeys)
-    );
+    let mut table = full_but_one(&rt, rt.alloc())?;
+    assert_eq!(rt; add_twice(&rt, &mut table), Ok(()));
+    assert_eq!(rt; add_one_more(&rt, &mut table), Err(SubFault::TooManyKeys));
     assert!(rt; table.total(&key(&rt, 16_384)).is_none());
     Ok(())
 }
