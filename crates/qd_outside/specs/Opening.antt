@@ -1,5 +1,5 @@
 -- What the calls on files do.
-use Rattle.std.specs.Prelude.{ℕ, ◌≤◌, ◌≡◌, ◌⊎◌, Bool, true, false, Option, Some, None, List, [], ◌∷◌, ◌++◌, if◌then◌else◌, nat_eq}
+use Rattle.std.specs.Prelude.{ℕ, ◌+◌, ◌≤◌, ◌≡◌, ◌⊎◌, Bool, true, false, Option, Some, None, List, [], ◌∷◌, ◌++◌, if◌then◌else◌, nat_eq, drop, map, vec_len}
 use Rattle.std.specs.Cmp.Lexicographic.{pointwise}
 use Rattle.qd_outside.specs.Causes.{Rose}
 use Rattle.qd_outside.specs.Reading.{Took, Tells, bytes_got}
@@ -7,7 +7,8 @@ use Rattle.qd_outside.specs.Writing.{Gained, WriteTells, FlushTells, bytes_writt
 use Rattle.qd_outside.specs.declared.source.Read.{Read}
 use Rattle.qd_outside.specs.declared.sink.Write.{Write}
 use Rattle.qd_outside.specs.declared.list_files.HeldFile.{HeldFile}
-use Rattle.qd_outside.specs.declared.list_files.Asked.{Asked}
+use Rattle.qd_outside.specs.declared.list_files.OpenCall.{OpenCall}
+use Rattle.qd_outside.specs.declared.list_files.ListFiles.{ListFiles}
 
 -- a call that opens: a file to be read, or one to be written, by its name
 pub data Opening : Type 0 where
@@ -106,5 +107,23 @@ abbrev pub opening_at : Bool → List ℕ → Opening
 opening_at is_out name = if is_out then Out name else In name
 
 -- a call as it was noted
-abbrev pub opening_of : Asked → Opening
+abbrev pub opening_of : OpenCall → Opening
 opening_of a = opening_at a.is_out a.name.items
+
+-- what files in memory tell
+abbrev pub told_by : ListFiles → Told
+told_by s = record {
+  holds = Some (held_in s.files.items);
+  left = Some (drop s.at s.bytes.items);
+  written = Some s.written.items;
+  asked = Some (map opening_of s.asked.items);
+  flushed = s.flushed;
+  is_reading = s.is_reading;
+  is_writing = s.is_writing;
+  read_faults = s.read_faults;
+  write_faults = s.write_faults;
+}
+
+-- a call that opens was noted
+abbrev pub NotesCall : ListFiles → ListFiles → Type 0
+NotesCall before after = vec_len after.asked ≡ vec_len before.asked + 1

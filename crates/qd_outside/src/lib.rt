@@ -21,7 +21,7 @@ mod source;
 
 pub use file_source::FileSource;
 pub use files::{Files, SoundFiles};
-pub use list_files::{Asked, HeldFile, ListFiles};
+pub use list_files::{HeldFile, ListFiles, OpenCall};
 pub use memory::{ListSink, ListSource, SoundSink, SoundSource};
 pub use out_buffer::OutBuffer;
 pub use real::{Reading, Writing};

@@ -1,4 +1,7 @@
-ghost use Rattle.std.specs.Prelude.{◌≡◌, Some, None, [], true, false};
+ghost use Rattle.std.specs.Prelude.{◌≡◌, ◌<◌, ◌-◌, ◌++◌, Some, None, [], true, length, drop, not, vec_len, vec_capacity};
+ghost use Rattle.qd_outside.specs.Planning.{fails_next, after_call, is_failed, WritesAs};
+ghost use Rattle.qd_outside.specs.Reading.{Tells, bytes_got};
+ghost use Rattle.qd_outside.specs.Writing.{WriteTells, FlushTells, bytes_written};
 
 use crate::files::copy_some;
 use crate::plan::Plan;
@@ -20,6 +23,7 @@ impl ListSource {
     pub fn new(bytes: Vec<u8>, plan: Vec<bool>) -> ListSource
         ensures left { ⟦<ListSource as Source>⟧.left result ≡ Some bytes.items }
         ensures faults { ⟦<ListSource as Source>⟧.faults result ≡ 0 }
+        ensures plan { result.plan ≡ record { fails = plan; calls = 0 } }
     {
         ListSource {
             bytes,
@@ -41,7 +45,14 @@ impl Source for ListSource {
 
     ghost kept = { λ _. tt };
 
-    fn read(&mut self, buf: &mut [u8]) -> Read {
+    // It fails exactly where the plan says so.
+    fn read(&mut self, buf: &mut [u8]) -> Read
+        requires { 0 < length buf.old }
+        ensures bytes { drop self.old.at self.old.bytes.items ≡ bytes_got result buf.new ++ drop self.new.at self.new.bytes.items }
+        ensures tells { Tells result buf.new (Some (drop self.new.at self.new.bytes.items)) self.old.faults self.new.faults }
+        ensures planned { is_failed result ≡ fails_next self.old.plan }
+        ensures counted { self.new.plan ≡ after_call self.old.plan }
+    {
         if self.plan.is_next_failing() {
             self.faults = self.faults.saturating_add(1);
             return Read::Failed;
@@ -108,6 +119,7 @@ impl ListSink {
         ensures written { ⟦<ListSink as Sink>⟧.written result ≡ Some [] }
         ensures flushed { ⟦<ListSink as Sink>⟧.flushed result ≡ true }
         ensures faults { ⟦<ListSink as Sink>⟧.faults result ≡ 0 }
+        ensures plan { result.plan ≡ record { fails = plan; calls = 0 } }
     {
         ListSink {
             written: Vec::new(alloc),
@@ -141,7 +153,14 @@ impl Sink for ListSink {
 
     ghost faults = { λ s. s.faults };
 
-    fn write(&mut self, piece: &[u8]) -> Write {
+    // It fails where the plan says so, and else only where there is no room for the piece.
+    fn write(&mut self, piece: &[u8]) -> Write
+        requires { 0 < length piece.now }
+        ensures bytes { self.new.written.items ≡ self.old.written.items ++ bytes_written result piece.now }
+        ensures tells { WriteTells result piece.now self.old.flushed self.new.flushed self.old.faults self.new.faults }
+        ensures planned { WritesAs (fails_next self.old.plan) result piece.now (vec_capacity self.old.written - vec_len self.old.written) }
+        ensures counted { self.new.plan ≡ after_call self.old.plan }
+    {
         if self.plan.is_next_failing() || self.written.extend_from_slice(piece).is_err() {
             self.faults = self.faults.saturating_add(1);
             return Write::Failed;
@@ -150,7 +169,13 @@ impl Sink for ListSink {
         Write::Wrote(piece.len())
     }
 
-    fn flush(&mut self) -> bool {
+    // It fails exactly where the plan says so.
+    fn flush(&mut self) -> bool
+        ensures bytes { self.new.written.items ≡ self.old.written.items }
+        ensures tells { FlushTells result self.old.flushed self.new.flushed self.old.faults self.new.faults }
+        ensures planned { result ≡ not (fails_next self.old.plan) }
+        ensures counted { self.new.plan ≡ after_call self.old.plan }
+    {
         if self.plan.is_next_failing() {
             self.faults = self.faults.saturating_add(1);
             return false;

@@ -1,4 +1,5 @@
-ghost use Rattle.std.specs.Prelude.{◌≡◌, ◌+◌, ◌-◌, ◌^◌, false, min, slice_get, unwrap_or};
+ghost use Rattle.std.specs.Prelude.{◌≡◌};
+ghost use Rattle.qd_outside.specs.Planning.{fails_next, after_call};
 
 /// Which calls are to fail: those whose number has `true`. Calls past the end of the list do not fail.
 #[derive(Drop)]
@@ -16,8 +17,8 @@ impl Plan {
 
     /// Counts a call, and tells whether it is to fail.
     pub fn is_next_failing(&mut self) -> bool
-        ensures planned { result ≡ unwrap_or (slice_get self.old.fails.items self.old.calls) false }
-        ensures counted { self.new ≡ record self.old { calls = min (self.old.calls + 1) (2 ^ 64 - 1) } }
+        ensures planned { result ≡ fails_next self.old }
+        ensures counted { self.new ≡ after_call self.old }
     {
         let call = self.calls;
         self.calls = call.saturating_add(1);
