@@ -3,7 +3,7 @@ use Rattle.std.proofs.Common.{◌≡◌, ℕ, Bool, true, false, List, [], ◌�
 use Rattle.std.specs.Prelude.{Option, Some, None, Result, Ok, Err}
 use Rattle.qd_grammar.specs.declared.fault.Fault.{Fault}
 use Rattle.qd_grammar.specs.declared.fault.Why.{Why}
-use Rattle.qd_grammar.specs.Parts.{Part, no_part, ◌>>=◌}
+use Rattle.qd_grammar.specs.Parts.{Part, ◌>>=◌}
 use Rattle.qd_grammar.specs.Fields.{part_says, or_fault, passing}
 
 -- the value of a first step, and what the steps behind it give
@@ -53,8 +53,3 @@ passed false x value place why e = cc
 
 pub passes : {A : Type 0} (test : Bool) (value : A) (place : ℕ) (why : Why) → test ≡ true → passing test value place why ≡ Ok value
 passes test value place why e = rw e refl
-
--- no part is left
-pub none_left : (end : ℕ) (parts : List Part) (u : Unit {0}) → no_part end parts ≡ Ok u → parts ≡ []
-none_left end [] u e = refl
-none_left end (part ∷ parts) u e = cc

@@ -1,11 +1,9 @@
--- The canonical line of an item spells it wherever any line does.
-use Rattle.std.proofs.Common.{◌≡◌, ℕ, suc, ◌+◌, Bool, true, false, cond, List, [], ◌∷◌, ◌++◌, length, nat_eq, refl, sym, ◌∙◌, ap, subst, arith, inl, inr}
-use Rattle.std.specs.Prelude.{◌==◌, ◌||◌, ◌&&◌, ◌⊎◌, nat_lt, codes, Option, Some, None, Result, Ok}
-use Rattle.std.specs.Cmp.Lexicographic.{pointwise}
+-- The texts of an item, joined to a line, are judged as the item.
+use Rattle.std.proofs.Common.{◌≡◌, ℕ, suc, ◌+◌, Bool, true, false, cond, List, [], ◌∷◌, ◌++◌, length, refl, sym, ◌∙◌, ap, subst, arith}
+use Rattle.std.specs.Prelude.{◌==◌, ◌&&◌, nat_lt, codes, Option, Some, Ok}
 use Rattle.std.proofs.lemmas.Bool.Decides.{nat_tests}
 use Rattle.std.proofs.Math.Bool.{and-false}
 use Rattle.qd_scheme.specs.declared.defs.RecordDef.{RecordDef}
-use Rattle.qd_grammar.specs.declared.fault.Fault.{Fault}
 use Rattle.qd_grammar.specs.declared.state.State.{State}
 use Rattle.qd_grammar.specs.declared.item.Mode.{Mode}
 use Rattle.qd_grammar.specs.declared.item.Message.{Message}
@@ -13,19 +11,14 @@ use Rattle.qd_grammar.specs.declared.item.Message.TheVariants.{TickerData, Strea
 use Rattle.qd_grammar.specs.declared.item.Item.{Item}
 use Rattle.qd_grammar.specs.declared.word.Word.{Word}
 use Rattle.qd_grammar.specs.declared.word.Word.TheVariants as w
-use Rattle.qd_grammar.specs.Parts.{Part, parts_of, ◌>>=◌}
-use Rattle.qd_grammar.specs.Body.{message_line, line_under, body_line}
-use Rattle.qd_grammar.specs.Control.{in_order, protocol_line, control_line, describe_line}
+use Rattle.qd_grammar.specs.Body.{message_line}
+use Rattle.qd_grammar.specs.Control.{protocol_line, control_line, describe_line}
 use Rattle.qd_grammar.specs.Lines.{is_skipped, is_control, is_description, first_line, later_line, judged_parts, item_of, Spells}
 use Rattle.qd_grammar.specs.Canonical.{behind, joined, texts_of, canonical}
-use Rattle.qd_grammar.specs.Laws.{CanonicalSpells, CanonicalDiffers}
-use Rattle.qd_grammar.proofs.Binds.{stepped}
 use Rattle.qd_grammar.proofs.Tabs.{HasNoTab, HaveNoTab, placed, parts_of-joined}
-use Rattle.qd_grammar.proofs.PartsAgain.{IsPlainName, ArePlain}
-use Rattle.qd_grammar.proofs.Plain.{plain_scheme}
-use Rattle.qd_grammar.proofs.LinesAgain.{IsAgain, IsBodyAgain, first_part, record_line_again, event_line_again, sub_line_again, hist_sub_line_again, lost_line_again}
-use Rattle.qd_grammar.proofs.ControlAgain.{word_text, control_again, protocol_again, IsDescribedAgain, describe_again}
-use Rattle.qd_grammar.proofs.Three.{spells_one}
+use Rattle.qd_grammar.proofs.PartsAgain.{IsPlainName}
+use Rattle.qd_grammar.proofs.LinesAgain.{IsAgain, IsBodyAgain, first_part}
+use Rattle.qd_grammar.proofs.ControlAgain.{word_text, IsDescribedAgain}
 
 -- how a line begins
 
@@ -48,7 +41,7 @@ no_skipped : (first : ℕ) (bytes : List ℕ) → (first == 35) ≡ false → is
 no_skipped first bytes e = let z : (suc (length bytes) == 0) ≡ false = grind (arith, nat_tests) in rw z e
 
 -- the texts of an item's line, which is judged as the item
-record IsLineAgain (mode : Mode) (s : State) (defs : List RecordDef) (item : Item) : Type 0 where
+pub record IsLineAgain (mode : Mode) (s : State) (defs : List RecordDef) (item : Item) : Type 0 where
   word : List ℕ
   rest : List (List ℕ)
   texts : texts_of defs item ≡ word ∷ rest
@@ -57,20 +50,13 @@ record IsLineAgain (mode : Mode) (s : State) (defs : List RecordDef) (item : Ite
   counts : is_skipped (word ++ behind rest) ≡ false
   judged : judged_parts mode s defs (word ++ behind rest) (placed 1 (word ∷ rest)) ≡ Ok item
 
--- which way a test went
-chosen : {A : Type 0} (test : Bool) (x y z : A) → cond test x y ≡ z → ((test ≡ true) × (x ≡ z)) ⊎ ((test ≡ false) × (y ≡ z))
-chosen true x y z e = inl (refl, e)
-chosen false x y z e = inr (refl, e)
-
 if_true : {A : Type 0} (test : Bool) (x y z : A) → test ≡ true → x ≡ z → cond test x y ≡ z
 if_true test x y z t e = rw t e
 
 -- the first line
 
-first_again : (mode : Mode) (s : State) (defs : List RecordDef) (item : Item) (end : ℕ) (first : Part) (parts : List Part) → s.started ≡ false → first_line end first parts ≡ Ok item → IsLineAgain mode s defs item
-first_again mode s defs item end first parts n e =
-    let a = stepped (in_order (pointwise nat_eq first.bytes (codes "==PROTOCOL"))) (λ u. protocol_line end parts) item e in
-    let g = protocol_again defs item end parts a.rest in
+pub first_is_again : (mode : Mode) (s : State) (defs : List RecordDef) (item : Item) → s.started ≡ false → IsAgain protocol_line defs item (codes "==PROTOCOL") → IsLineAgain mode s defs item
+first_is_again mode s defs item n g =
     let line : List ℕ = codes "==PROTOCOL" ++ behind g.rest in
     record {
       word = codes "==PROTOCOL";
@@ -125,12 +111,10 @@ control_word w.At = record { others = codes "AT"; begins = refl; no_tab = tested
 control_word w.Pump = record { others = codes "PUMP"; begins = refl; no_tab = tested (codes "PUMP") refl }
 control_word w.Move = record { others = codes "MOVE"; begins = refl; no_tab = tested (codes "MOVE") refl }
 
-control_line_again : (mode : Mode) (s : State) (defs : List RecordDef) (item : Item) (end : ℕ) (first : Part) (parts : List Part) → s.started ≡ true → control_line mode s end first parts ≡ Ok item → IsLineAgain mode s defs item
-control_line_again mode s defs item end first parts n e =
-    let found = control_again mode s defs item end first parts e in
-    let g = found.1 in
-    let word : List ℕ = word_text found.0 in
-    let b = control_word found.0 in
+pub word_is_again : (mode : Mode) (s : State) (defs : List RecordDef) (item : Item) (known : Word) → s.started ≡ true → IsAgain (λ q rest. control_line mode s q (first_part (word_text known)) rest) defs item (word_text known) → IsLineAgain mode s defs item
+word_is_again mode s defs item known n g =
+    let word : List ℕ = word_text known in
+    let b = control_word known in
     let line : List ℕ = word ++ behind g.rest in
     let begins : line ≡ 61 ∷ 61 ∷ (b.others ++ behind g.rest) = ap (λ (t : List ℕ). t ++ behind g.rest) b.begins in
     let is : is_control line ≡ true = ap is_control begins ∙ begins_control (b.others ++ behind g.rest) in
@@ -146,7 +130,7 @@ control_line_again mode s defs item end first parts n e =
 
 -- descriptions and body lines
 
-described_line_again : (mode : Mode) (s : State) (defs : List RecordDef) (item : Item) → s.started ≡ true → IsDescribedAgain defs item → IsLineAgain mode s defs item
+pub described_line_again : (mode : Mode) (s : State) (defs : List RecordDef) (item : Item) → s.started ≡ true → IsDescribedAgain defs item → IsLineAgain mode s defs item
 described_line_again mode s defs item n d = go d.name d.plain d.again
   where
     go : (name : List ℕ) → IsPlainName name → IsAgain (λ q rest. describe_line defs q (first_part (61 ∷ name)) rest) defs item (61 ∷ name) → IsLineAgain mode s defs item
@@ -165,29 +149,13 @@ described_line_again mode s defs item n d = go d.name d.plain d.again
           judged = rw n (rw c (rw d (g.again (length line + 1) (1 + length (61 ∷ byte ∷ bytes) + 1))));
         }
 
-message_again : (message : Message) (defs : List RecordDef) (end : ℕ) (parts : List Part) (item : Item) → ArePlain defs → message_line defs message end parts ≡ Ok item → IsBodyAgain (message_line defs message) defs item
-message_again TickerData defs end parts item h e = record_line_again defs end parts item h e
-message_again StreamData defs end parts item h e = record_line_again defs end parts item h e
-message_again HistoryData defs end parts item h e = event_line_again defs end parts item h e
-message_again StreamLost defs end parts item h e = lost_line_again defs end parts item h e
-message_again TickerAdd defs end parts item h e = sub_line_again false defs end parts item h e
-message_again StreamAdd defs end parts item h e = sub_line_again false defs end parts item h e
-message_again HistoryAdd defs end parts item h e = hist_sub_line_again defs end parts item h e
-message_again TickerRemove defs end parts item h e = sub_line_again false defs end parts item h e
-message_again StreamRemove defs end parts item h e = sub_line_again false defs end parts item h e
-message_again HistoryRemove defs end parts item h e = sub_line_again true defs end parts item h e
-
 -- the current message of a body line, under which its texts are read as the item
-record IsUnder (current : Option Message) (defs : List RecordDef) (item : Item) : Type 0 where
-  message : Message
-  is : current ≡ Some message
-  again : IsBodyAgain (message_line defs message) defs item
+pub record IsUnder (current : Option Message) (defs : List RecordDef) (item : Item) : Type 0 where
+  pub message : Message
+  pub is : current ≡ Some message
+  pub again : IsBodyAgain (message_line defs message) defs item
 
-under : (current : Option Message) (defs : List RecordDef) (end : ℕ) (parts : List Part) (item : Item) → ArePlain defs → line_under current defs end parts ≡ Ok item → IsUnder current defs item
-under None defs end parts item h e = cc
-under (Some message) defs end parts item h e = record { message = message; is = refl; again = message_again message defs end parts item h e }
-
-body_line_again : (mode : Mode) (s : State) (defs : List RecordDef) (item : Item) → s.started ≡ true → IsUnder s.message defs item → IsLineAgain mode s defs item
+pub body_line_again : (mode : Mode) (s : State) (defs : List RecordDef) (item : Item) → s.started ≡ true → IsUnder s.message defs item → IsLineAgain mode s defs item
 body_line_again mode s defs item n u = go u.again.name u.again.plain u.again.again
   where
     go : (name : List ℕ) → IsPlainName name → IsAgain (λ q rest. message_line defs u.message q (first_part name ∷ rest)) defs item name → IsLineAgain mode s defs item
@@ -207,40 +175,10 @@ body_line_again mode s defs item n u = go u.again.name u.again.plain u.again.aga
           judged = rw n (rw c (rw d (rw m (g.again (length line + 1) (1 + length (byte ∷ bytes) + 1)))));
         }
 
--- any line
-
-later_again : (mode : Mode) (s : State) (defs : List RecordDef) (line : List ℕ) (item : Item) (first : Part) (parts : List Part) → ArePlain defs → s.started ≡ true → later_line mode s defs line first parts ≡ Ok item → IsLineAgain mode s defs item
-later_again mode s defs line item first parts h n e =
-    let end : ℕ = length line + 1 in
-    let body : Result Item Fault = body_line s defs end (first ∷ parts) in
-    let described : Result Item Fault = describe_line defs end first parts in
-    elim (chosen (is_control line) (control_line mode s end first parts) (cond (is_description line) described body) (Ok item) e) [
-      | inl a ↦ control_line_again mode s defs item end first parts n a.1
-      | inr b ↦ elim (chosen (is_description line) described body (Ok item) b.1) [
-        | inl c ↦ described_line_again mode s defs item n (describe_again defs item end first parts h c.1)
-        | inr d ↦ body_line_again mode s defs item n (under s.message defs end (first ∷ parts) item h d.1)
-      ]
-    ]
-
-line_again : (mode : Mode) (s : State) (defs : List RecordDef) (line : List ℕ) (item : Item) (parts : List Part) → ArePlain defs → judged_parts mode s defs line parts ≡ Ok item → IsLineAgain mode s defs item
-line_again mode s defs line item [] h e = cc
-line_again mode s defs line item (first ∷ parts) h e = elim (chosen s.started (later_line mode s defs line first parts) (first_line (length line + 1) first parts) (Ok item) e) [
-  | inl a ↦ later_again mode s defs line item first parts h a.0 a.1
-  | inr b ↦ first_again mode s defs item (length line + 1) first parts b.0 b.1
-]
-
-spelled_again : (mode : Mode) (s : State) (defs : List RecordDef) (item : Item) → IsLineAgain mode s defs item → Spells mode s defs (canonical defs item) item
+pub spelled_again : (mode : Mode) (s : State) (defs : List RecordDef) (item : Item) → IsLineAgain mode s defs item → Spells mode s defs (canonical defs item) item
 unfolding canonical item_of
 spelled_again mode s defs item g =
     let line : List ℕ = g.word ++ behind g.rest in
     let same : joined (texts_of defs item) ≡ line = ap joined g.texts in
     subst (λ (l : List ℕ). Spells mode s defs l item) (sym same)
     (record { counts = g.counts; judged = ap (judged_parts mode s defs line) (parts_of-joined g.word g.rest g.no_tab g.no_tabs) ∙ g.judged })
-
-pub canonical_spells : CanonicalSpells
-unfolding item_of
-canonical_spells mode s defs line item is h = spelled_again mode s defs item (line_again mode s defs line item (parts_of line) (plain_scheme defs is) h.judged)
-
-pub canonical_differs : CanonicalDiffers
-canonical_differs mode s defs v u a b is p q e =
-    spells_one mode s defs (canonical defs b) a b (subst (λ (l : List ℕ). Spells mode s defs l a) e (canonical_spells mode s defs v a is p)) (canonical_spells mode s defs u b is q)

@@ -1,5 +1,5 @@
 -- The canonical texts of numbers: they have no TAB, and are read as what they were written for.
-use Rattle.std.proofs.Common.{◌≡◌, ℕ, zero, suc, ◌+◌, ◌-◌, ◌*◌, ◌/◌, ◌%◌, ◌^◌, ◌<◌, ◌≤◌, Bool, true, false, cond, List, [], ◌∷◌, ◌++◌, refl, ◌∙◌, subst, arith}
+use Rattle.std.proofs.Common.{◌≡◌, ℕ, zero, suc, ◌+◌, ◌/◌, ◌%◌, ◌^◌, ◌<◌, ◌≤◌, Bool, true, false, cond, List, [], ◌∷◌, refl, subst, arith}
 use Rattle.std.specs.Prelude.{◌==◌, decimal, nat_le, Option, Some, None, Result, Ok, Err}
 use Rattle.std.proofs.lemmas.Bool.Decides.{nat_tests}
 use Rattle.std.proofs.lemmas.Fmt.{decimal_by_steps}
@@ -114,17 +114,23 @@ count_reach most text n e =
     let b = last (whole_at text 0) (count_fit most) n a.1 in
     count_within most b.0 n b.1
 
--- what was read is read again from its canonical text
-pub cell_again : (kind : FieldKind) (text : List ℕ) (value : ℤ) → number_of_kind kind text ≡ Ok value → number_of_kind kind (cell_text kind value) ≡ Ok value
-cell_again Int text value e = int_again value (int_reach text value e)
-cell_again (Dec scale) text value e = again scale value (dec_reach scale text value e)
+-- a cell that was read is in reach
+pub cell_reach : (kind : FieldKind) (text : List ℕ) (value : ℤ) → number_of_kind kind text ≡ Ok value → IsInReach value
+cell_reach Int text value e = int_reach text value e
+cell_reach (Dec scale) text value e = dec_reach scale text value e
 
-pub no_tab-cell : (kind : FieldKind) (text : List ℕ) (value : ℤ) → number_of_kind kind text ≡ Ok value → HasNoTab (cell_text kind value)
-no_tab-cell Int text value e = no_tab-dec 0 value (int_reach text value e)
-no_tab-cell (Dec scale) text value e = no_tab-dec scale value (dec_reach scale text value e)
+-- a cell in reach is read from its canonical text
+pub cell_again : (kind : FieldKind) (value : ℤ) → IsInReach value → number_of_kind kind (cell_text kind value) ≡ Ok value
+cell_again Int value h = int_again value h
+cell_again (Dec scale) value h = again scale value h
 
-pub number_again : (most : ℕ) (text : List ℕ) (n : ℕ) → most < 2 ^ 64 → count_of most text ≡ Ok n → count_of most (decimal n) ≡ Ok n
-number_again most text n k e = count_again most n k (count_reach most text n e)
+pub no_tab-cell : (kind : FieldKind) (value : ℤ) → IsInReach value → HasNoTab (cell_text kind value)
+no_tab-cell Int value h = no_tab-dec 0 value h
+no_tab-cell (Dec scale) value h = no_tab-dec scale value h
 
-pub no_tab-number : (most : ℕ) (text : List ℕ) (n : ℕ) → most < 2 ^ 64 → count_of most text ≡ Ok n → HasNoTab (decimal n)
-no_tab-number most text n k e = let h : n ≤ most = count_reach most text n e in no_tab-decimal n (omega arith)
+-- so is a count up to a limit
+pub number_again : (most n : ℕ) → most < 2 ^ 64 → n ≤ most → count_of most (decimal n) ≡ Ok n
+number_again most n k h = count_again most n k h
+
+pub no_tab-number : (most n : ℕ) → most < 2 ^ 64 → n ≤ most → HasNoTab (decimal n)
+no_tab-number most n k h = no_tab-decimal n (omega arith)

@@ -1,5 +1,5 @@
 -- The names of a scheme can begin a line.
-use Rattle.std.proofs.Common.{◌≡◌, ℕ, suc, ◌+◌, ◌<◌, ◌≤◌, ◌^◌, Bool, true, false, List, [], ◌∷◌, ◌++◌, length, take, refl, arith}
+use Rattle.std.proofs.Common.{◌≡◌, ℕ, suc, ◌≤◌, Bool, true, false, List, [], ◌∷◌, ◌++◌, length, take, refl, arith}
 use Rattle.std.specs.Prelude.{◌==◌, ◌&&◌, nat_le, codes, slice_get, IsTrue, Some}
 use Rattle.std.specs.List.{list_all}
 use Rattle.std.proofs.lemmas.Bool.Decides.{nat_tests}
@@ -11,16 +11,13 @@ use Rattle.qd_scheme.specs.declared.defs.FieldKind.TheVariants.{Int, Dec}
 use Rattle.qd_scheme.specs.declared.defs.FieldDef.{FieldDef}
 use Rattle.qd_scheme.specs.declared.defs.RecordDef.{RecordDef}
 use Rattle.qd_grammar.specs.Control.{kind_text, field_text}
+use Rattle.qd_grammar.proofs.Flags.{both}
 use Rattle.qd_grammar.proofs.Tabs.{HasNoTab, no_tab-append}
 use Rattle.qd_grammar.proofs.NumberTexts.{no_tab-decimal}
 use Rattle.qd_grammar.proofs.PartsAgain.{IsPlainName, ArePlainFields, ArePlain}
 
 true_of : {b : Bool} → IsTrue b → b ≡ true
 true_of h = h
-
-both : (a b : Bool) → (a && b) ≡ true → (a ≡ true) × (b ≡ true)
-both true b e = (refl, e)
-both false b e = cc
 
 -- a byte of a name is no TAB, and its first one also no `=` and no `#`
 

@@ -1,6 +1,6 @@
 -- Worked lines, by evaluation.
 use Rattle.std.specs.Fmt.{digits}
-use Rattle.std.proofs.Common.{◌^◌, ◌-◌, ◌≡◌, ℕ, ◌∷◌, [], ◌++◌, List, refl}
+use Rattle.std.proofs.Common.{◌^◌, ◌-◌, ◌≡◌, ℕ, ◌∷◌, [], List, refl}
 use Rattle.std.specs.Prelude.{codes, Ok, Err, Some, None, true, false, Result}
 use lib.IntN.{pos, negsuc}
 use Rattle.qd_decimal.specs.Reading.{dec_of, point_at, rest_at, whole_at, digits_end, zeros_end, int_of, count_of}

@@ -1,5 +1,5 @@
 -- Exactly one of three.
-use Rattle.std.proofs.Common.{◌≡◌, ℕ, Bool, true, false, refl, ◌∙◌, inl, inr, ap}
+use Rattle.std.proofs.Common.{◌≡◌, ℕ, Bool, true, false, refl, inl, inr, ap}
 use Rattle.std.specs.Prelude.{◌⊎◌, Result, Ok, Err}
 use Rattle.qd_grammar.specs.declared.item.Item.{Item}
 use Rattle.qd_grammar.specs.declared.fault.Fault.{Fault}

@@ -1,5 +1,5 @@
 -- The canonical line of an item.
-use Rattle.std.specs.Prelude.{ℕ, ◌+◌, ◌/◌, ◌%◌, ◌^◌, ◌-◌, ◌==◌, List, [], ◌∷◌, ◌++◌, codes, Option, Some, None, slice_get, decimal}
+use Rattle.std.specs.Prelude.{ℕ, List, [], ◌∷◌, ◌++◌, codes, Option, Some, None, slice_get, decimal}
 use lib.IntN.{ℤ}
 use Rattle.qd_decimal.specs.Texts.{dec_text}
 use Rattle.qd_scheme.specs.declared.defs.RecordDef.{RecordDef}

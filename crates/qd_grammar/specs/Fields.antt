@@ -1,5 +1,5 @@
 -- What one part of a line says.
-use Rattle.std.specs.Prelude.{ℕ, ◌+◌, ◌-◌, ◌*◌, ◌^◌, ◌==◌, ◌||◌, not, List, [], ◌∷◌, Bool, true, false, Option, Some, None, Result, Ok, Err, bit_and, slice_get}
+use Rattle.std.specs.Prelude.{ℕ, ◌+◌, ◌-◌, ◌^◌, ◌==◌, ◌||◌, not, List, [], ◌∷◌, Bool, true, false, Option, Some, None, Result, Ok, Err, bit_and, slice_get}
 use lib.IntN.{ℤ}
 use Rattle.qd_decimal.specs.Reading.{dec_of, int_of, count_of}
 use Rattle.qd_decimal.specs.declared.fault.DecFault.{DecFault}

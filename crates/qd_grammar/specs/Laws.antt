@@ -6,6 +6,7 @@ use Rattle.qd_grammar.specs.declared.item.Item.{Item}
 use Rattle.qd_grammar.specs.declared.fault.Why.{Why}
 use Rattle.qd_scheme.specs.Schemes.{IsScheme}
 use Rattle.qd_grammar.specs.Canonical.{canonical}
+use Rattle.qd_grammar.specs.Items.{IsItem, MayStand}
 use Rattle.qd_grammar.specs.Lines.{IsSkipped, Spells, HasFault}
 use Rattle.qd_grammar.specs.declared.state.State.{State}
 
@@ -36,3 +37,15 @@ CanonicalSpells = (mode : Mode) (s : State) (defs : List RecordDef) (line : List
 -- two different items of one state have different canonical lines
 abbrev pub CanonicalDiffers : Type 0
 CanonicalDiffers = (mode : Mode) (s : State) (defs : List RecordDef) (v w : List ℕ) (a b : Item) → IsScheme defs → Spells mode s defs v a → Spells mode s defs w b → canonical defs a ≡ canonical defs b → a ≡ b
+
+-- the canonical line of each item spells it wherever the item may stand
+abbrev pub EachSpells : Type 0
+EachSpells = (mode : Mode) (s : State) (defs : List RecordDef) (item : Item) → IsScheme defs → IsItem defs item → MayStand mode s defs item → Spells mode s defs (canonical defs item) item
+
+-- so some line spells each item
+abbrev pub EachFits : Type 0
+EachFits = (defs : List RecordDef) (item : Item) → IsScheme defs → IsItem defs item → Fits defs item
+
+-- and what a line spells is an item that may stand there
+abbrev pub SpellsItems : Type 0
+SpellsItems = (mode : Mode) (s : State) (defs : List RecordDef) (line : List ℕ) (item : Item) → Spells mode s defs line item → IsItem defs item × MayStand mode s defs item

@@ -3,6 +3,7 @@ pub mod Words
 pub mod Fields
 pub mod Body
 pub mod Control
+pub mod Items
 pub mod Laws
 pub mod Lines
 pub mod Canonical

@@ -1,5 +1,5 @@
 -- What a line is in a mode, a state and under a scheme: it is skipped, it spells an item, or it has a fault.
-use Rattle.std.specs.Prelude.{ℕ, ◌≡◌, ◌+◌, ◌==◌, ◌||◌, ◌&&◌, not, if◌then◌else◌, List, [], ◌∷◌, length, codes, nat_lt, Bool, true, false, Option, Some, None, Result, Ok, Err, slice_index, nat_eq}
+use Rattle.std.specs.Prelude.{ℕ, ◌≡◌, ◌+◌, ◌==◌, ◌||◌, ◌&&◌, if◌then◌else◌, List, [], ◌∷◌, length, codes, nat_lt, Bool, true, false, Option, Some, None, Result, Ok, Err, slice_index, nat_eq}
 use Rattle.std.specs.Cmp.Lexicographic.{pointwise}
 use Rattle.qd_scheme.specs.declared.defs.RecordDef.{RecordDef}
 use Rattle.qd_grammar.specs.declared.fault.Fault.{Fault}

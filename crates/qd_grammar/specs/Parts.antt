@@ -1,5 +1,5 @@
 -- The parts of a line, and how a line is read part by part from the left.
-use Rattle.std.specs.Prelude.{ℕ, ◌+◌, ◌==◌, cond, if◌then◌else◌, List, [], ◌∷◌, Result, Ok, Err}
+use Rattle.std.specs.Prelude.{ℕ, ◌+◌, ◌==◌, cond, List, [], ◌∷◌, Result, Ok, Err}
 use Rattle.qd_grammar.specs.declared.fault.Fault.{Fault}
 use Rattle.qd_grammar.specs.declared.fault.Why.{Why}
 use Rattle.qd_grammar.specs.declared.fault.Why.TheVariants.{Form}

@@ -1,5 +1,5 @@
 -- The control words, and where each may stand.
-use Rattle.std.specs.Prelude.{ℕ, ◌+◌, cond, List, [], ◌∷◌, codes, Bool, true, false, Option, Some, None, nat_eq}
+use Rattle.std.specs.Prelude.{ℕ, cond, List, [], ◌∷◌, codes, Bool, true, false, Option, Some, None, nat_eq}
 use Rattle.std.specs.Cmp.Lexicographic.{pointwise}
 use Rattle.qd_grammar.specs.declared.item.Message.{Message}
 use Rattle.qd_grammar.specs.declared.item.Message.TheVariants.{TickerData, StreamData, HistoryData, StreamLost, TickerAdd, StreamAdd, HistoryAdd, TickerRemove, StreamRemove, HistoryRemove}

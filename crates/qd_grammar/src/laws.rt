@@ -1,6 +1,6 @@
 //! The laws of lines, as contracts of functions that do nothing.
 
-ghost use Rattle.qd_grammar.specs.Laws.{IsOneOfThree, IsOnlyOne, SpellsOne, HasOneFault, CanonicalSpells, CanonicalDiffers};
+ghost use Rattle.qd_grammar.specs.Laws.{IsOneOfThree, IsOnlyOne, SpellsOne, HasOneFault, CanonicalSpells, CanonicalDiffers, EachSpells, EachFits, SpellsItems};
 
 /// In each mode and state, under each scheme, a line is skipped, spells an item, or has a fault, and no two of these.
 pub fn one_of_three()
@@ -19,4 +19,12 @@ pub fn one_item()
 pub fn canonical_line()
     ensures spells { CanonicalSpells }
     ensures differs { CanonicalDiffers }
+{}
+
+/// What lines spell, told from the item's side: the canonical line of each item spells the item wherever the item may stand,
+/// each item may stand somewhere, and what a line spells is an item that may stand there.
+pub fn each_item()
+    ensures spells { EachSpells }
+    ensures fits { EachFits }
+    ensures only { SpellsItems }
 {}

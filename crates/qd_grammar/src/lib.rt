@@ -12,6 +12,6 @@ mod word;
 
 pub use fault::{Fault, Why};
 pub use item::{Collector, Item, Message, Mode, Way};
-pub use laws::{canonical_line, one_item, one_of_three};
+pub use laws::{canonical_line, each_item, one_item, one_of_three};
 pub use state::State;
 pub use word::Word;

@@ -1,4 +1,4 @@
-use Rattle.qd_grammar.proofs.CanonicalAgain.{canonical_spells, canonical_differs}
+use Rattle.qd_grammar.proofs.CanonicalLaws.{canonical_spells, canonical_differs}
 use Rattle.qd_grammar.proofs.laws.canonical_line.Goals as goal
 
 pub returns : goal.returns
