@@ -9,15 +9,27 @@ use std::alloc::{AllocError, Global};
 use std::process::Abort;
 use std::test::Fail;
 
-/// The next number of a linear congruence, below a bound.
+/// The next number of a linear congruence.
+fn next(state: u64) -> u64 {
+    state
+        .wrapping_mul(6_364_136_223_846_793_005)
+        .wrapping_add(1_442_695_040_888_963_407)
+}
+
+fn rest(number: u64, below: u8) -> u8
+    requires { 0 < below }
+    ensures { result < below }
+{
+    (number % u64::from(below)) as u8
+}
+
+/// The next random number, below a bound.
 fn draw(state: &mut u64, below: u8) -> u8
     requires { 0 < below }
     ensures { result < below }
 {
-    *state = state
-        .wrapping_mul(6_364_136_223_846_793_005)
-        .wrapping_add(1_442_695_040_888_963_407);
-    ((*state >> 33) % below as u64) as u8
+    *state = next(*state);
+    rest(*state >> 33, below)
 }
 
 /// Some letters, and as many values.

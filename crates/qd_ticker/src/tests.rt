@@ -190,109 +190,129 @@ fn make_all(
     Ok(())
 }
 
+const CASES: [&[Call]; 10] = [
+    // What is put for a key without a subscribed agent is not kept.
+    &[
+        Call::Put(&[(b'A', 1)]),
+        Call::Add(0, b"A"),
+        Call::Take(0, 10, &[]),
+    ],
+    // A new subscription finds the last record, once.
+    &[
+        Call::Add(0, b"A"),
+        Call::Put(&[(b'A', 1)]),
+        Call::Add(1, b"A"),
+        Call::Take(1, 10, &[(b'A', 1)]),
+        Call::Take(1, 10, &[]),
+    ],
+    // A key that nobody is subscribed to is forgotten.
+    &[
+        Call::Add(0, b"A"),
+        Call::Put(&[(b'A', 1)]),
+        Call::Remove(0, b"A"),
+        Call::Add(0, b"A"),
+        Call::Take(0, 10, &[]),
+    ],
+    // The keys that became pending first are given first.
+    &[
+        Call::Add(0, b"ABC"),
+        Call::Put(&[(b'A', 1), (b'B', 2), (b'C', 3)]),
+        Call::Take(0, 2, &[(b'A', 1), (b'B', 2)]),
+        Call::Put(&[(b'A', 4)]),
+        Call::Take(0, 2, &[(b'C', 3), (b'A', 4)]),
+    ],
+    // A key that is pending keeps its place, and is given with its last record.
+    &[
+        Call::Add(0, b"AB"),
+        Call::Put(&[(b'A', 1), (b'B', 2), (b'A', 3)]),
+        Call::Take(0, 10, &[(b'A', 3), (b'B', 2)]),
+    ],
+    // An Add of a subscribed key changes nothing, and a Remove ends what is pending.
+    &[
+        Call::Add(0, b"AB"),
+        Call::Put(&[(b'A', 1), (b'B', 2)]),
+        Call::Add(0, b"BA"),
+        Call::Remove(0, b"CA"),
+        Call::Take(0, 10, &[(b'B', 2)]),
+        Call::Add(0, b"B"),
+        Call::Take(0, 10, &[]),
+    ],
+    // A Close ends the subscriptions of one agent.
+    &[
+        Call::Add(0, b"AB"),
+        Call::Add(1, b"B"),
+        Call::Put(&[(b'A', 1), (b'B', 2)]),
+        Call::Close(0),
+        Call::Put(&[(b'A', 3), (b'B', 4)]),
+        Call::Take(0, 10, &[]),
+        Call::Take(1, 10, &[(b'B', 4)]),
+        Call::Add(0, b"AB"),
+        Call::Take(0, 10, &[(b'B', 4)]),
+    ],
+    // A watcher is told each total once, and at the end of the last subscription that there is none.
+    &[
+        Call::Add(0, b"AB"),
+        Call::Watch(7, 1, &[(b'A', true)]),
+        Call::Watch(7, 10, &[(b'B', true)]),
+        Call::Watch(7, 10, &[]),
+        Call::Add(1, b"A"),
+        Call::Remove(0, b"A"),
+        Call::Watch(7, 10, &[]),
+        Call::Close(1),
+        Call::Watch(7, 10, &[(b'A', false)]),
+        Call::Watch(0, 10, &[(b'B', true)]),
+    ],
+    // A key that was dropped and is wanted again is told without a total first.
+    &[
+        Call::Add(0, b"A"),
+        Call::Watch(0, 10, &[(b'A', true)]),
+        Call::Remove(0, b"A"),
+        Call::Add(0, b"BA"),
+        Call::Watch(0, 10, &[(b'A', false), (b'B', true)]),
+        Call::Watch(0, 10, &[(b'A', true)]),
+        Call::Watch(0, 10, &[]),
+    ],
+    // A key that only a watcher knows of keeps no record.
+    &[
+        Call::Add(0, b"A"),
+        Call::Watch(0, 10, &[(b'A', true)]),
+        Call::Put(&[(b'A', 1)]),
+        Call::Close(0),
+        Call::Put(&[(b'A', 2)]),
+        Call::Add(0, b"A"),
+        Call::Take(0, 10, &[]),
+    ],
+];
+
 #[test]
 fn a_take_gives_the_oldest_pending_keys_first_each_with_its_last_record(
     rt: HostRuntime,
 ) -> Result<(), Fail> {
     let alloc = rt.alloc();
-    let cases: [&[Call]; 10] = [
-        // What is put for a key without a subscribed agent is not kept.
-        &[
-            Call::Put(&[(b'A', 1)]),
-            Call::Add(0, b"A"),
-            Call::Take(0, 10, &[]),
-        ],
-        // A new subscription finds the last record, once.
-        &[
-            Call::Add(0, b"A"),
-            Call::Put(&[(b'A', 1)]),
-            Call::Add(1, b"A"),
-            Call::Take(1, 10, &[(b'A', 1)]),
-            Call::Take(1, 10, &[]),
-        ],
-        // A key that nobody is subscribed to is forgotten.
-        &[
-            Call::Add(0, b"A"),
-            Call::Put(&[(b'A', 1)]),
-            Call::Remove(0, b"A"),
-            Call::Add(0, b"A"),
-            Call::Take(0, 10, &[]),
-        ],
-        // The keys that became pending first are given first.
-        &[
-            Call::Add(0, b"ABC"),
-            Call::Put(&[(b'A', 1), (b'B', 2), (b'C', 3)]),
-            Call::Take(0, 2, &[(b'A', 1), (b'B', 2)]),
-            Call::Put(&[(b'A', 4)]),
-            Call::Take(0, 2, &[(b'C', 3), (b'A', 4)]),
-        ],
-        // A key that is pending keeps its place, and is given with its last record.
-        &[
-            Call::Add(0, b"AB"),
-            Call::Put(&[(b'A', 1), (b'B', 2), (b'A', 3)]),
-            Call::Take(0, 10, &[(b'A', 3), (b'B', 2)]),
-        ],
-        // An Add of a subscribed key changes nothing, and a Remove ends what is pending.
-        &[
-            Call::Add(0, b"AB"),
-            Call::Put(&[(b'A', 1), (b'B', 2)]),
-            Call::Add(0, b"BA"),
-            Call::Remove(0, b"CA"),
-            Call::Take(0, 10, &[(b'B', 2)]),
-            Call::Add(0, b"B"),
-            Call::Take(0, 10, &[]),
-        ],
-        // A Close ends the subscriptions of one agent.
-        &[
-            Call::Add(0, b"AB"),
-            Call::Add(1, b"B"),
-            Call::Put(&[(b'A', 1), (b'B', 2)]),
-            Call::Close(0),
-            Call::Put(&[(b'A', 3), (b'B', 4)]),
-            Call::Take(0, 10, &[]),
-            Call::Take(1, 10, &[(b'B', 4)]),
-            Call::Add(0, b"AB"),
-            Call::Take(0, 10, &[(b'B', 4)]),
-        ],
-        // A watcher is told each total once, and at the end of the last subscription that there is none.
-        &[
-            Call::Add(0, b"AB"),
-            Call::Watch(7, 1, &[(b'A', true)]),
-            Call::Watch(7, 10, &[(b'B', true)]),
-            Call::Watch(7, 10, &[]),
-            Call::Add(1, b"A"),
-            Call::Remove(0, b"A"),
-            Call::Watch(7, 10, &[]),
-            Call::Close(1),
-            Call::Watch(7, 10, &[(b'A', false)]),
-            Call::Watch(0, 10, &[(b'B', true)]),
-        ],
-        // A key that was dropped and is wanted again is told without a total first.
-        &[
-            Call::Add(0, b"A"),
-            Call::Watch(0, 10, &[(b'A', true)]),
-            Call::Remove(0, b"A"),
-            Call::Add(0, b"BA"),
-            Call::Watch(0, 10, &[(b'A', false), (b'B', true)]),
-            Call::Watch(0, 10, &[(b'A', true)]),
-            Call::Watch(0, 10, &[]),
-        ],
-        // A key that only a watcher knows of keeps no record.
-        &[
-            Call::Add(0, b"A"),
-            Call::Watch(0, 10, &[(b'A', true)]),
-            Call::Put(&[(b'A', 1)]),
-            Call::Close(0),
-            Call::Put(&[(b'A', 2)]),
-            Call::Add(0, b"A"),
-            Call::Take(0, 10, &[]),
-        ],
-    ];
-    for calls in cases {
+    for calls in CASES {
         let mut stripe = TickerStripe::new(alloc)?;
         make_all(&rt, alloc, &mut stripe, calls)?;
     }
     Ok(())
+}
+
+fn numbered(rt: &impl Abort, rec: u32) -> Sub {
+    let sym = key(rt, b'A').sym;
+    Sub {
+        key: Key { rec, sym },
+        limit: 0,
+    }
+}
+
+/// 4096 keys, from a record number on.
+fn many(rt: &impl Abort, alloc: Global, from: u32) -> Result<Buffer<Sub>, AllocError>
+    ensures { IfOk result (λ b. length b.items ≤ 4096) }
+{
+    let mut items = Vec::new(alloc);
+    for rec in from..from.saturating_add(4096) {
+        items.push(numbered(rt, rec))?;
+    }
+    buffer(rt, alloc, items.as_slice())
 }
 
 /// Subscribes agent 0 to 4096 keys, from a record number on.
@@ -302,30 +322,40 @@ fn fill(
     stripe: &mut TickerStripe,
     from: u32,
 ) -> Result<Reply<Record>, AllocError> {
-    let sym = key(rt, b'A').sym;
-    let mut items = Vec::new(alloc);
-    for rec in from..from.saturating_add(4096) {
-        items.push(Sub {
-            key: Key { rec, sym },
-            limit: 0,
-        })?;
-    }
-    let subs = buffer(rt, alloc, items.as_slice())?;
+    let subs = many(rt, alloc, from)?;
     let agent = agent(rt, 0);
     Ok(turn(stripe, Op::Add { agent, subs }))
+}
+
+fn fits(
+    rt: &impl Abort,
+    alloc: Global,
+    stripe: &mut TickerStripe,
+    from: u32,
+) -> Result<(), AllocError> {
+    let reply = fill(rt, alloc, stripe, from)?;
+    assert!(rt; matches!(reply, Reply::Done));
+    Ok(())
+}
+
+fn fits_not(
+    rt: &impl Abort,
+    alloc: Global,
+    stripe: &mut TickerStripe,
+    from: u32,
+) -> Result<(), AllocError> {
+    let reply = fill(rt, alloc, stripe, from)?;
+    assert!(rt; matches!(reply, Reply::TooManyKeys));
+    Ok(())
 }
 
 #[test]
 fn a_stripe_is_full_with_16384_keys(rt: HostRuntime) -> Result<(), Fail> {
     let alloc = rt.alloc();
     let mut stripe = TickerStripe::new(alloc)?;
-    for part in 0..4u32 {
-        let reply = fill(&rt, alloc, &mut stripe, part * 4096)?;
-        assert!(rt; matches!(reply, Reply::Done));
+    for from in [0, 4096, 8192, 12_288, 1] {
+        fits(&rt, alloc, &mut stripe, from)?;
     }
-    let reply = fill(&rt, alloc, &mut stripe, 1)?;
-    assert!(rt; matches!(reply, Reply::Done));
-    let reply = fill(&rt, alloc, &mut stripe, 12_289)?;
-    assert!(rt; matches!(reply, Reply::TooManyKeys));
+    fits_not(&rt, alloc, &mut stripe, 12_289)?;
     Ok(())
 }
