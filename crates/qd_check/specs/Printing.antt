@@ -14,6 +14,11 @@ use Rattle.qd_scheme.specs.declared.defs.RecordDef.{RecordDef}
 abbrev pub line_of : List RecordDef → Item → List ℕ
 line_of defs item = canonical defs item ++ 10 ∷ []
 
+-- the most bytes of lines behind which a further one is gathered: a line of at most 1000 bytes and its line feed fit
+-- behind them into the 4096 bytes that a line of output may have
+abbrev pub most_gathered : ℕ
+most_gathered = 3000
+
 -- the lines of these items, of which the newest stands first here and last in the text
 abbrev pub lines_of : List RecordDef → List Numbered → List ℕ
 lines_of defs [] = []

@@ -2,7 +2,7 @@
 
 ghost use Rattle.std.specs.Prelude.{◌≡◌, ◌≤◌, ◌++◌, ◌∷◌, [], length, true};
 ghost use Rattle.qd_check.specs.Counting.{PrintsEnd, PrintsLines};
-ghost use Rattle.qd_check.specs.Printing.{end_line, fmt_text, line_of};
+ghost use Rattle.qd_check.specs.Printing.{end_line, fmt_text, line_of, most_gathered};
 ghost use Rattle.qd_check.specs.Runs.{IsDecided, IsFlushed, Runs};
 ghost use Rattle.qd_grammar.specs.declared.item.Mode.TheVariants.{File};
 ghost use Rattle.qd_items.specs.Standing.{opening};
@@ -15,6 +15,9 @@ use qd_outside::{OutBuffer, Sink, Source};
 use qd_scheme::Scheme;
 use qd_text::{Item, Mode, write_item};
 use std::alloc::Global;
+
+// A canonical line has at most 1,000 bytes, so it and its LF fit behind these into the 4,096 bytes of a `Line`.
+const MOST_GATHERED: usize = 3000;
 
 /// Prints the canonical line of each item of a text as it is read, END's line last. At an end before END the lines before
 /// it stand written.
@@ -127,10 +130,10 @@ fn print_item<K: Sink>(
 #[inline]
 #[tactic(auto, using(crate::proofs::Gathering::let_go, crate::proofs::FmtLaws::nothing_printed))]
 fn make_room<K: Sink>(lines: &mut Line, out: &mut OutBuffer, sink: &mut K) -> bool
-    ensures room { length lines.new ≤ 3000 }
+    ensures room { length lines.new ≤ most_gathered }
     ensures prints { Prints result [] (out.old ++ lines.old) (out.new ++ lines.new) (K.written sink.old) (K.written sink.new) (K.faults sink.old) (K.faults sink.new) }
 {
-    if lines.len() <= 3000 {
+    if lines.len() <= MOST_GATHERED {
         return true;
     }
     let printed = out.print(sink, lines.bytes());
@@ -140,7 +143,7 @@ fn make_room<K: Sink>(lines: &mut Line, out: &mut OutBuffer, sink: &mut K) -> bo
 
 /// Writes the line of an item behind others.
 fn add_line(scheme: &Scheme, item: &Item, lines: &mut Line)
-    requires { length lines.old ≤ 3000 }
+    requires { length lines.old ≤ most_gathered }
     ensures { lines.new ≡ lines.old ++ line_of scheme.now item.now }
 {
     write_item(scheme, item, lines);
