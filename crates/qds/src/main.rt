@@ -4,9 +4,8 @@
 ghost use Rattle.std.specs.Prelude.{◌≡◌};
 ghost use Rattle.std.specs.Process.{exit_status};
 
-use qd_items::RunEnd;
 use qd_outside::{Reading, RealFiles, Writing};
-use qds_tools::{ProgramEnd, Status, plain_main, report};
+use qds_tools::{Status, plain_main, report_no_words};
 use std::process::ExitCode;
 use std::{env, io};
 
@@ -26,7 +25,7 @@ fn main(rt: HostRuntime) -> ExitCode {
                 &mut err,
             )
         }
-        Err(why) => report(end_without_words(why), &mut err),
+        Err(why) => report_no_words(why, &mut err),
     };
     code_of(&status)
 }
@@ -38,14 +37,6 @@ fn words(rt: &HostRuntime) -> Result<Vec<String>, io::Error> {
         words.push(word)?;
     }
     Ok(words)
-}
-
-// A word that is no UTF-8 asks for nothing.
-fn end_without_words(why: io::Error) -> ProgramEnd {
-    match why.kind() {
-        io::ErrorKind::OutOfMemory => ProgramEnd::Ran(RunEnd::NoMemory),
-        _ => ProgramEnd::Usage,
-    }
 }
 
 // The status of the process is that of the run.

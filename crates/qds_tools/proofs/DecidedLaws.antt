@@ -7,7 +7,7 @@ use Rattle.qd_items.specs.Runs.{run_end}
 use Rattle.qd_items.specs.declared.ends.RunEnd.{RunEnd}
 use Rattle.qd_items.specs.declared.ends.RunEnd.TheVariants as runs
 use Rattle.qd_outside.specs.Causes.{Rose}
-use Rattle.qd_outside.specs.Opening.{Told, OpensIn, IsHeld, LeftOf}
+use Rattle.qd_outside.specs.Opening.{FilesState, OpensIn, IsHeld, LeftOf}
 use Rattle.qd_outside.specs.Writing.{Gained}
 use Rattle.qd_replay.specs.Ends.{IsFlushed as ReplayFlushed}
 use Rattle.qd_replay.specs.Settings.{Setting}
@@ -27,24 +27,24 @@ use Rattle.qds_tools.specs.Program.{World, IsReadOn, SchemeComes, RunsOn, FileRu
 use Rattle.qds_tools.specs.Statuses.{status_of, Reports}
 
 -- what is left of a file that was opened, where that is told
-opened_text : (name bytes : List ℕ) (before opened : Told) → OpensIn true name before opened → HasText before name bytes → opened.left ≡ Some bytes
+opened_text : (name bytes : List ℕ) (before opened : FilesState) → OpensIn true name before opened → HasText before name bytes → opened.left ≡ Some bytes
 opened_text name bytes before opened o (holds, h, b) =
     subst (λ (x : Option (List ℕ)). LeftOf x opened.left) b (subst (λ (x : Option (List ℕ → Option (List ℕ))). IsHeld x name opened.left) h o.1)
 
-opened_faults : (name : List ℕ) (before opened : Told) → OpensIn true name before opened → opened.read_faults ≡ before.read_faults
-opened_faults name before opened o = ap (λ (t : Told). t.read_faults) o.0
+opened_faults : (name : List ℕ) (before opened : FilesState) → OpensIn true name before opened → opened.read_faults ≡ before.read_faults
+opened_faults name before opened o = ap (λ (t : FilesState). t.read_faults) o.0
 
-opened_holds : (name : List ℕ) (before opened : Told) → OpensIn true name before opened → opened.holds ≡ before.holds
-opened_holds name before opened o = ap (λ (t : Told). t.holds) o.0
+opened_holds : (name : List ℕ) (before opened : FilesState) → OpensIn true name before opened → opened.holds ≡ before.holds
+opened_holds name before opened o = ap (λ (t : FilesState). t.holds) o.0
 
-read_holds : (before after : Told) → IsReadOn before after → after.holds ≡ before.holds
-read_holds before after e = ap (λ (t : Told). t.holds) e
+read_holds : (before after : FilesState) → IsReadOn before after → after.holds ≡ before.holds
+read_holds before after e = ap (λ (t : FilesState). t.holds) e
 
-same_text : (name bytes : List ℕ) (before after : Told) → after.holds ≡ before.holds → HasText before name bytes → HasText after name bytes
+same_text : (name bytes : List ℕ) (before after : FilesState) → after.holds ≡ before.holds → HasText before name bytes → HasText after name bytes
 same_text name bytes before after e (holds, h, b) = (holds, e ∙ h, b)
 
 -- a scheme that came is the one that is told
-scheme_is : (name : Option (List ℕ)) (defs : List RecordDef) (other : Result (List RecordDef) NoScheme) (before after : Told) → SchemeComes name (Ok defs) before after → IsScheme name before other → Ok defs ≡ other
+scheme_is : (name : Option (List ℕ)) (defs : List RecordDef) (other : Result (List RecordDef) NoScheme) (before after : FilesState) → SchemeComes name (Ok defs) before after → IsScheme name before other → Ok defs ≡ other
 scheme_is None defs other before after c i = ap (λ (d : List RecordDef). Ok d) c.0 ∙ sym i
 scheme_is (Some name) defs other before after (inl (opened, o, e, r)) (bytes, h, d) =
     let left = opened_text name bytes before opened o h in
@@ -52,18 +52,18 @@ scheme_is (Some name) defs other before after (inl (opened, o, e, r)) (bytes, h,
 scheme_is (Some name) defs other before after (inr (o, e)) i = absurd (cc)
 
 -- it leaves the counts of faults, and what the names hold
-scheme_faults : (name : Option (List ℕ)) (defs : List RecordDef) (before after : Told) → SchemeComes name (Ok defs) before after → after.read_faults ≡ before.read_faults
-scheme_faults None defs before after c = ap (λ (t : Told). t.read_faults) c.1
+scheme_faults : (name : Option (List ℕ)) (defs : List RecordDef) (before after : FilesState) → SchemeComes name (Ok defs) before after → after.read_faults ≡ before.read_faults
+scheme_faults None defs before after c = ap (λ (t : FilesState). t.read_faults) c.1
 scheme_faults (Some name) defs before after (inl (opened, o, e, r)) = e.cause.1 ∙ opened_faults name before opened o
 scheme_faults (Some name) defs before after (inr (o, e)) = absurd (cc)
 
-scheme_holds : (name : Option (List ℕ)) (defs : List RecordDef) (before after : Told) → SchemeComes name (Ok defs) before after → after.holds ≡ before.holds
-scheme_holds None defs before after c = ap (λ (t : Told). t.holds) c.1
+scheme_holds : (name : Option (List ℕ)) (defs : List RecordDef) (before after : FilesState) → SchemeComes name (Ok defs) before after → after.holds ≡ before.holds
+scheme_holds None defs before after c = ap (λ (t : FilesState). t.holds) c.1
 scheme_holds (Some name) defs before after (inl (opened, o, e, r)) = read_holds opened after r ∙ opened_holds name before opened o
 scheme_holds (Some name) defs before after (inr (o, e)) = absurd (cc)
 
 -- a scheme that was refused is so by what is told
-refused_is : (name : Option (List ℕ)) (why : NoScheme) (other : Result (List RecordDef) NoScheme) (before after : Told) → SchemeComes name (Err why) before after → IsScheme name before other → (Rose before.read_faults after.read_faults → ⊥)
+refused_is : (name : Option (List ℕ)) (why : NoScheme) (other : Result (List RecordDef) NoScheme) (before after : FilesState) → SchemeComes name (Err why) before after → IsScheme name before other → (Rose before.read_faults after.read_faults → ⊥)
     → (Err why ≡ other) ⊎ (why ≡ schemes.NoMemory)
 refused_is None why other before after c i sound = inr c.0
 refused_is (Some name) why other before after (inl (opened, o, e, r)) (bytes, h, d) sound =
@@ -135,7 +135,7 @@ by_asked command (Some name) set text printed end other o w (inl (opened, p, r, 
 by_asked command (Some name) set text printed end other o w (inr r, u) t l n = absurd (n.0 r.0.2)
 
 -- the text, and that no fault was counted, once the scheme came
-text_still : (file : Option (List ℕ)) (text : List ℕ) (o : World) (files : Told) → files.holds ≡ o.files.holds → IsText file o text → IsText file (record o { files = files }) text
+text_still : (file : Option (List ℕ)) (text : List ℕ) (o : World) (files : FilesState) → files.holds ≡ o.files.holds → IsText file o text → IsText file (record o { files = files }) text
 text_still None text o files e t = t
 text_still (Some name) text o files e t = same_text name text o.files files e t
 

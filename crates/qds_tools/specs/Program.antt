@@ -4,7 +4,7 @@ use Rattle.qd_check.specs.Runs.{Outside, IsFlushed}
 use Rattle.qd_items.specs.declared.ends.RunEnd.{RunEnd}
 use Rattle.qd_items.specs.declared.ends.RunEnd.TheVariants as runs
 use Rattle.qd_outside.specs.Causes.{Rose}
-use Rattle.qd_outside.specs.Opening.{Told, OpensIn}
+use Rattle.qd_outside.specs.Opening.{FilesState, OpensIn}
 use Rattle.qd_outside.specs.Writing.{Gained}
 use Rattle.qd_replay.specs.Settings.{Setting}
 use Rattle.qd_scheme.specs.Builtin.{builtin_defs}
@@ -20,7 +20,7 @@ use Rattle.qds_tools.specs.Commands.{setting_of, RunsBy, LeadsTo}
 
 -- what is told outside: by the files, of standard input and of standard output
 pub record World : Type 0 where
-  pub files : Told
+  pub files : FilesState
   pub left : Option (List ℕ)
   pub reads : ℕ
   pub written : Option (List ℕ)
@@ -28,17 +28,17 @@ pub record World : Type 0 where
   pub writes : ℕ
 
 -- of the file that is read, some was read, and nothing else changed
-abbrev pub IsReadOn : Told → Told → Type 0
+abbrev pub IsReadOn : FilesState → FilesState → Type 0
 IsReadOn before after = after ≡ record before { left = after.left; read_faults = after.read_faults }
 
 -- a scheme file of this name was opened and read to an end, or it could not be opened
-abbrev pub SchemeRead : List ℕ → Result (List RecordDef) NoScheme → Told → Told → Type 0
+abbrev pub SchemeRead : List ℕ → Result (List RecordDef) NoScheme → FilesState → FilesState → Type 0
 SchemeRead name end before after =
-    ((opened : Told) × OpensIn true name before opened × FileEnds end opened.left after.left opened.read_faults after.read_faults × IsReadOn opened after)
+    ((opened : FilesState) × OpensIn true name before opened × FileEnds end opened.left after.left opened.read_faults after.read_faults × IsReadOn opened after)
     ⊎ (OpensIn false name before after × (end ≡ Err schemes.ReadFault))
 
 -- the scheme of a command: the built-in one, or that of the scheme file
-abbrev pub SchemeComes : Option (List ℕ) → Result (List RecordDef) NoScheme → Told → Told → Type 0
+abbrev pub SchemeComes : Option (List ℕ) → Result (List RecordDef) NoScheme → FilesState → FilesState → Type 0
 SchemeComes None (Ok defs) before after = (defs ≡ builtin_defs) × (after ≡ before)
 SchemeComes None (Err why) before after = (why ≡ schemes.NoMemory) × (after ≡ before)
 SchemeComes (Some name) end before after = SchemeRead name end before after
@@ -50,9 +50,9 @@ RunsOnInput command set end o w =
     × IsFlushed end w.flushed × (w.files ≡ o.files)
 
 -- a command ran over the file of this name, or it could not be opened: the files, what is written, whether it is flushed, and the faults of writing, before and after
-abbrev pub FileRuns : Command → Setting → List ℕ → RunEnd → Told → Told → Option (List ℕ) → Option (List ℕ) → Bool → Bool → ℕ → ℕ → Type 0
+abbrev pub FileRuns : Command → Setting → List ℕ → RunEnd → FilesState → FilesState → Option (List ℕ) → Option (List ℕ) → Bool → Bool → ℕ → ℕ → Type 0
 FileRuns command set name end before after was now flushed ends writes later =
-    ((opened : Told) × OpensIn true name before opened
+    ((opened : FilesState) × OpensIn true name before opened
     × RunsBy command set (record { left = opened.left; reads = opened.read_faults; written = was; writes = writes }) end (record { left = after.left; reads = after.read_faults; written = now; writes = later })
     × IsFlushed end ends × IsReadOn opened after)
     ⊎ (OpensIn false name before after × (end ≡ runs.ReadFault) × (now ≡ was) × (ends ≡ flushed) × (later ≡ writes))
@@ -74,14 +74,14 @@ RunsOn command set (Some name) end o w = FileRuns command set name end o.files w
 abbrev pub Ends : Asked → ProgramEnd → World → World → Type 0
 Ends ask Usage o w = ⊥
 Ends ask (Refused why) o w = SchemeComes ask.scheme (Err why) o.files w.files × IsUnread o w × IsUnwritten o w
-Ends ask (Ran end) o w = (defs : List RecordDef) × (files : Told) × SchemeComes ask.scheme (Ok defs) o.files files × RunsOn ask.command (setting_of ask defs) ask.file end (record o { files = files }) w
+Ends ask (Ran end) o w = (defs : List RecordDef) × (files : FilesState) × SchemeComes ask.scheme (Ok defs) o.files files × RunsOn ask.command (setting_of ask defs) ask.file end (record o { files = files }) w
 
 -- the file of this name has these bytes, as the files tell
-abbrev pub HasText : Told → List ℕ → List ℕ → Type 0
+abbrev pub HasText : FilesState → List ℕ → List ℕ → Type 0
 HasText files name bytes = (holds : List ℕ → Option (List ℕ)) × (files.holds ≡ Some holds) × (holds name ≡ Some bytes)
 
 -- the scheme that is asked for is told
-abbrev pub IsScheme : Option (List ℕ) → Told → Result (List RecordDef) NoScheme → Type 0
+abbrev pub IsScheme : Option (List ℕ) → FilesState → Result (List RecordDef) NoScheme → Type 0
 IsScheme None files end = end ≡ Ok builtin_defs
 IsScheme (Some name) files end = (bytes : List ℕ) × HasText files name bytes × FileDecides bytes end
 

@@ -1,5 +1,7 @@
 -- The exit statuses of the program.
 use Rattle.std.specs.Prelude.{ℕ, ◌≡◌, ◌⊎◌, List, Option}
+use Rattle.std.specs.declared.io.ErrorKind.{ErrorKind}
+use Rattle.std.specs.declared.io.ErrorKind.TheVariants.{OutOfMemory}
 use Rattle.qd_items.specs.declared.ends.RunEnd.{RunEnd}
 use Rattle.qd_items.specs.declared.ends.RunEnd.TheVariants as runs
 use Rattle.qd_outside.specs.Writing.{IsWritten, IsCutShort}
@@ -37,6 +39,11 @@ abbrev pub status_of : ProgramEnd → ℕ
 status_of Usage = 2
 status_of (Refused why) = scheme_status why
 status_of (Ran end) = run_status end
+
+-- how the program ends where the words of its command line cannot be had: a word that is no text asks for nothing
+abbrev pub end_without_words : ErrorKind → ProgramEnd
+end_without_words OutOfMemory = Ran runs.NoMemory
+end_without_words kind = Usage
 
 -- a text was written, or a fault cut it short
 abbrev pub Told : List ℕ → Option (List ℕ) → Option (List ℕ) → ℕ → ℕ → Type 0

@@ -13,7 +13,7 @@ mod program_end;
 mod running;
 mod status;
 
-pub use plain::{plain_main, report};
+pub use plain::{plain_main, report_no_words};
 pub use program_end::ProgramEnd;
 pub use status::Status;
 

@@ -1,4 +1,5 @@
 ghost use Rattle.std.specs.Prelude.{◌≡◌, ◌⊎◌, map, string_bytes, List, ℕ, Option, Some, None, Ok, Err, IfSome};
+ghost use Rattle.std.specs.IoError.{error_kind};
 ghost use Rattle.qd_items.specs.declared.ends.RunEnd.{RunEnd};
 ghost use Rattle.qd_outside.specs.Writing.{Gained};
 ghost use Rattle.qd_scheme.specs.declared.defs.RecordDef.{RecordDef};
@@ -8,15 +9,17 @@ ghost use Rattle.qds_tools.specs.declared.program_end.ProgramEnd.{ProgramEnd};
 ghost use Rattle.qds_tools.specs.declared.program_end.ProgramEnd.TheVariants.{Usage, Refused, Ran};
 ghost use Rattle.qds_tools.specs.Commands.{LeadsTo, setting_of};
 ghost use Rattle.qds_tools.specs.Program.{Ends, IsScheme, IsText, NoFault};
-ghost use Rattle.qds_tools.specs.Statuses.{Reports};
+ghost use Rattle.qds_tools.specs.Statuses.{Reports, end_without_words};
 
 use crate::fault_line::write_fault;
 use crate::program_end::ProgramEnd;
 use crate::running::run_asked;
 use crate::status::Status;
+use qd_items::RunEnd;
 use qd_outside::{Files, Sink, Source};
 use qd_words::ask_of;
 use std::alloc::Global;
+use std::io;
 
 /// The program over handed-in objects: the words ask for a command, which reads a file or `input` and prints to `out`; a
 /// line on a fault goes to `err`.
@@ -58,9 +61,20 @@ pub fn plain_main<F: Files, S: Source, K: Sink, E: Sink>(
     }
 }
 
+/// The program where the words of its command line cannot be had.
+pub fn report_no_words<E: Sink>(why: io::Error, err: &mut E) -> Status
+    ensures { Reports (end_without_words (error_kind why)) result (E.written err.old) (E.written err.new) (E.faults err.old) (E.faults err.new) }
+{
+    let end = match why.kind() {
+        io::ErrorKind::OutOfMemory => ProgramEnd::Ran(RunEnd::NoMemory),
+        _ => ProgramEnd::Usage,
+    };
+    report(end, err)
+}
+
 /// Tells how the program ended, where a line belongs to the end, and gives its status. A failure to write the line changes
 /// nothing.
-pub fn report<E: Sink>(end: ProgramEnd, err: &mut E) -> Status
+fn report<E: Sink>(end: ProgramEnd, err: &mut E) -> Status
     ensures { Reports end result (E.written err.old) (E.written err.new) (E.faults err.old) (E.faults err.new) }
 {
     let _ = write_fault(err, end);
