@@ -8,6 +8,13 @@ use std::alloc::{AllocError, Global};
 use std::process::Abort;
 use std::test::Fail;
 
+/// The next number of a linear congruence.
+fn next(state: u64) -> u64 {
+    state
+        .wrapping_mul(6_364_136_223_846_793_005)
+        .wrapping_add(1_442_695_040_888_963_407)
+}
+
 /// Numbers that look random.
 #[derive(Drop)]
 struct Dice {
@@ -20,8 +27,7 @@ impl Dice {
         requires { 0 < most }
         ensures { result < most }
     {
-        let next = self.state.wrapping_mul(6_364_136_223_846_793_005);
-        self.state = next.wrapping_add(1_442_695_040_888_963_407);
+        self.state = next(self.state);
         (self.state >> 16) % most
     }
 }

@@ -181,6 +181,21 @@ pub(crate) fn take(
     Ok(())
 }
 
+fn wants_of(
+    rt: &impl Abort,
+    alloc: Global,
+    list: &[(u8, Option<u64>)],
+) -> Result<Vec<Want>, AllocError> {
+    let mut wants = Vec::new(alloc);
+    for (letter, total) in list {
+        wants.push(Want {
+            key: key(rt, *letter),
+            total: *total,
+        })?;
+    }
+    Ok(wants)
+}
+
 fn watch(
     rt: &impl Abort,
     alloc: Global,
@@ -190,13 +205,7 @@ fn watch(
     list: &[(u8, Option<u64>)],
 ) -> Result<(), AllocError> {
     let watcher = WatcherNo::of(number).expect(rt, "a watcher");
-    let mut wanted = Vec::new(alloc);
-    for (letter, total) in list {
-        wanted.push(Want {
-            key: key(rt, *letter),
-            total: *total,
-        })?;
-    }
+    let wanted = wants_of(rt, alloc, list)?;
     let asked = max >= 1 && max <= 4096;
     assert!(rt; asked);
     let out = Buffer::with_room(alloc, max)?;
@@ -222,158 +231,160 @@ fn make_all(
 
 const MOST: u64 = u64::MAX;
 
+/// The `cap` of a stripe, and calls of it.
+const CASES: [(u16, &[Call]); 11] = [
+    // Of three trades a buffer of two keeps the later ones, and one was lost.
+    (
+        2,
+        &[
+            Call::Add(0, b"AB"),
+            Call::Put(&[Trade(b'A', 1), Trade(b'B', 2), Trade(b'A', 3)]),
+            Call::Take(0, 10, &[Lost(b'A', 1), Trade(b'B', 2), Trade(b'A', 3)]),
+            Call::Take(0, 10, &[]),
+        ],
+    ),
+    // A lost item that was lost counts for its count, and is told first.
+    (
+        1,
+        &[
+            Call::Add(0, b"AB"),
+            Call::Put(&[Lost(b'A', 5)]),
+            Call::Put(&[Trade(b'B', 2)]),
+            Call::Take(0, 1, &[Lost(b'A', 5)]),
+            Call::Take(0, 1, &[Trade(b'B', 2)]),
+        ],
+    ),
+    // A sum stops at its most.
+    (
+        1,
+        &[
+            Call::Add(0, b"AB"),
+            Call::Put(&[Lost(b'A', MOST)]),
+            Call::Put(&[Trade(b'A', 1), Trade(b'B', 2)]),
+            Call::Take(0, 10, &[Lost(b'A', MOST), Trade(b'B', 2)]),
+        ],
+    ),
+    // A wide buffer loses nothing, and what is put for others is not given.
+    (
+        4096,
+        &[
+            Call::Put(&[Trade(b'A', 1)]),
+            Call::Add(0, b"A"),
+            Call::Add(1, b"B"),
+            Call::Put(&[Trade(b'A', 2), Trade(b'B', 3), Trade(b'A', 4)]),
+            Call::Take(0, 10, &[Trade(b'A', 2), Trade(b'A', 4)]),
+            Call::Take(1, 10, &[Trade(b'B', 3)]),
+        ],
+    ),
+    // Losses come by the first that was not told, and a key that was told begins anew.
+    (
+        1,
+        &[
+            Call::Add(0, b"ABC"),
+            Call::Put(&[
+                Trade(b'B', 1),
+                Trade(b'A', 2),
+                Trade(b'B', 3),
+                Trade(b'C', 4),
+            ]),
+            Call::Take(0, 1, &[Lost(b'B', 2)]),
+            Call::Put(&[Trade(b'B', 5), Trade(b'A', 6)]),
+            Call::Take(0, 2, &[Lost(b'A', 1), Lost(b'C', 1)]),
+            Call::Take(0, 9, &[Lost(b'B', 1), Trade(b'A', 6)]),
+        ],
+    ),
+    // A waiting item outlives its subscription; a new one begins behind it.
+    (
+        2,
+        &[
+            Call::Add(0, b"A"),
+            Call::Put(&[Trade(b'A', 1)]),
+            Call::Remove(0, b"ABA"),
+            Call::Put(&[Trade(b'A', 2)]),
+            Call::Add(0, b"AA"),
+            Call::Put(&[Trade(b'A', 3)]),
+            Call::Take(0, 9, &[Trade(b'A', 1), Trade(b'A', 3)]),
+        ],
+    ),
+    // A loss outlives its subscription.
+    (
+        1,
+        &[
+            Call::Add(0, b"AB"),
+            Call::Put(&[Trade(b'A', 1), Trade(b'B', 2)]),
+            Call::Remove(0, b"A"),
+            Call::Take(0, 1, &[Lost(b'A', 1)]),
+            Call::Add(0, b"A"),
+            Call::Take(0, 9, &[Trade(b'B', 2)]),
+        ],
+    ),
+    // A Close drops what one agent is owed, also of keys that it left before.
+    (
+        1,
+        &[
+            Call::Add(0, b"AB"),
+            Call::Add(1, b"AB"),
+            Call::Put(&[Trade(b'A', 1), Trade(b'B', 2)]),
+            Call::Remove(0, b"A"),
+            Call::Close(0),
+            Call::Take(0, 9, &[]),
+            Call::Add(0, b"A"),
+            Call::Put(&[Trade(b'A', 3)]),
+            Call::Take(0, 9, &[Trade(b'A', 3)]),
+            Call::Take(1, 9, &[Lost(b'A', 1), Lost(b'B', 1), Trade(b'A', 3)]),
+        ],
+    ),
+    // Many agents of one key each get every trade.
+    (
+        2,
+        &[
+            Call::Add(0, b"A"),
+            Call::Add(64, b"A"),
+            Call::Add(127, b"BA"),
+            Call::Put(&[Trade(b'A', 1), Trade(b'A', 2)]),
+            Call::Take(127, 1, &[Trade(b'A', 1)]),
+            Call::Put(&[Trade(b'A', 3)]),
+            Call::Take(0, 9, &[Lost(b'A', 1), Trade(b'A', 2), Trade(b'A', 3)]),
+            Call::Take(64, 1, &[Lost(b'A', 1)]),
+            Call::Take(64, 9, &[Trade(b'A', 2), Trade(b'A', 3)]),
+            Call::Take(127, 9, &[Trade(b'A', 2), Trade(b'A', 3)]),
+        ],
+    ),
+    // A watcher is told of a key that begins to be wanted, and of its end, in that order.
+    (
+        1,
+        &[
+            Call::Add(0, b"AB"),
+            Call::Watch(0, 1, &[(b'A', Some(0))]),
+            Call::Put(&[Trade(b'A', 1)]),
+            Call::Remove(0, b"A"),
+            Call::Watch(0, 9, &[(b'B', Some(0)), (b'A', None)]),
+            Call::Watch(0, 9, &[]),
+            Call::Take(0, 9, &[Trade(b'A', 1)]),
+        ],
+    ),
+    // A key that is only owed keeps its own slot when others come and go.
+    (
+        2,
+        &[
+            Call::Add(0, b"A"),
+            Call::Put(&[Trade(b'A', 1)]),
+            Call::Close(0),
+            Call::Add(1, b"B"),
+            Call::Put(&[Trade(b'B', 1), Trade(b'B', 2), Trade(b'B', 3)]),
+            Call::Remove(1, b"B"),
+            Call::Add(0, b"CD"),
+            Call::Put(&[Trade(b'C', 1), Trade(b'D', 2), Trade(b'C', 3)]),
+            Call::Take(1, 9, &[Lost(b'B', 1), Trade(b'B', 2), Trade(b'B', 3)]),
+            Call::Take(0, 9, &[Lost(b'C', 1), Trade(b'D', 2), Trade(b'C', 3)]),
+        ],
+    ),
+];
+
 #[test]
 fn a_take_gives_the_losses_and_then_the_items_that_wait(rt: HostRuntime) -> Result<(), Fail> {
     let alloc = rt.alloc();
-    let cases: [(u16, &[Call]); 11] = [
-        // Of three trades a buffer of two keeps the later ones, and one was lost.
-        (
-            2,
-            &[
-                Call::Add(0, b"AB"),
-                Call::Put(&[Trade(b'A', 1), Trade(b'B', 2), Trade(b'A', 3)]),
-                Call::Take(0, 10, &[Lost(b'A', 1), Trade(b'B', 2), Trade(b'A', 3)]),
-                Call::Take(0, 10, &[]),
-            ],
-        ),
-        // A lost item that was lost counts for its count, and is told first.
-        (
-            1,
-            &[
-                Call::Add(0, b"AB"),
-                Call::Put(&[Lost(b'A', 5)]),
-                Call::Put(&[Trade(b'B', 2)]),
-                Call::Take(0, 1, &[Lost(b'A', 5)]),
-                Call::Take(0, 1, &[Trade(b'B', 2)]),
-            ],
-        ),
-        // A sum stops at its most.
-        (
-            1,
-            &[
-                Call::Add(0, b"AB"),
-                Call::Put(&[Lost(b'A', MOST)]),
-                Call::Put(&[Trade(b'A', 1), Trade(b'B', 2)]),
-                Call::Take(0, 10, &[Lost(b'A', MOST), Trade(b'B', 2)]),
-            ],
-        ),
-        // A wide buffer loses nothing, and what is put for others is not given.
-        (
-            4096,
-            &[
-                Call::Put(&[Trade(b'A', 1)]),
-                Call::Add(0, b"A"),
-                Call::Add(1, b"B"),
-                Call::Put(&[Trade(b'A', 2), Trade(b'B', 3), Trade(b'A', 4)]),
-                Call::Take(0, 10, &[Trade(b'A', 2), Trade(b'A', 4)]),
-                Call::Take(1, 10, &[Trade(b'B', 3)]),
-            ],
-        ),
-        // Losses come by the first that was not told, and a key that was told begins anew.
-        (
-            1,
-            &[
-                Call::Add(0, b"ABC"),
-                Call::Put(&[
-                    Trade(b'B', 1),
-                    Trade(b'A', 2),
-                    Trade(b'B', 3),
-                    Trade(b'C', 4),
-                ]),
-                Call::Take(0, 1, &[Lost(b'B', 2)]),
-                Call::Put(&[Trade(b'B', 5), Trade(b'A', 6)]),
-                Call::Take(0, 2, &[Lost(b'A', 1), Lost(b'C', 1)]),
-                Call::Take(0, 9, &[Lost(b'B', 1), Trade(b'A', 6)]),
-            ],
-        ),
-        // A waiting item outlives its subscription; a new one begins behind it.
-        (
-            2,
-            &[
-                Call::Add(0, b"A"),
-                Call::Put(&[Trade(b'A', 1)]),
-                Call::Remove(0, b"ABA"),
-                Call::Put(&[Trade(b'A', 2)]),
-                Call::Add(0, b"AA"),
-                Call::Put(&[Trade(b'A', 3)]),
-                Call::Take(0, 9, &[Trade(b'A', 1), Trade(b'A', 3)]),
-            ],
-        ),
-        // A loss outlives its subscription.
-        (
-            1,
-            &[
-                Call::Add(0, b"AB"),
-                Call::Put(&[Trade(b'A', 1), Trade(b'B', 2)]),
-                Call::Remove(0, b"A"),
-                Call::Take(0, 1, &[Lost(b'A', 1)]),
-                Call::Add(0, b"A"),
-                Call::Take(0, 9, &[Trade(b'B', 2)]),
-            ],
-        ),
-        // A Close drops what one agent is owed, also of keys that it left before.
-        (
-            1,
-            &[
-                Call::Add(0, b"AB"),
-                Call::Add(1, b"AB"),
-                Call::Put(&[Trade(b'A', 1), Trade(b'B', 2)]),
-                Call::Remove(0, b"A"),
-                Call::Close(0),
-                Call::Take(0, 9, &[]),
-                Call::Add(0, b"A"),
-                Call::Put(&[Trade(b'A', 3)]),
-                Call::Take(0, 9, &[Trade(b'A', 3)]),
-                Call::Take(1, 9, &[Lost(b'A', 1), Lost(b'B', 1), Trade(b'A', 3)]),
-            ],
-        ),
-        // Many agents of one key each get every trade.
-        (
-            2,
-            &[
-                Call::Add(0, b"A"),
-                Call::Add(64, b"A"),
-                Call::Add(127, b"BA"),
-                Call::Put(&[Trade(b'A', 1), Trade(b'A', 2)]),
-                Call::Take(127, 1, &[Trade(b'A', 1)]),
-                Call::Put(&[Trade(b'A', 3)]),
-                Call::Take(0, 9, &[Lost(b'A', 1), Trade(b'A', 2), Trade(b'A', 3)]),
-                Call::Take(64, 1, &[Lost(b'A', 1)]),
-                Call::Take(64, 9, &[Trade(b'A', 2), Trade(b'A', 3)]),
-                Call::Take(127, 9, &[Trade(b'A', 2), Trade(b'A', 3)]),
-            ],
-        ),
-        // A watcher is told of a key that begins to be wanted, and of its end, in that order.
-        (
-            1,
-            &[
-                Call::Add(0, b"AB"),
-                Call::Watch(0, 1, &[(b'A', Some(0))]),
-                Call::Put(&[Trade(b'A', 1)]),
-                Call::Remove(0, b"A"),
-                Call::Watch(0, 9, &[(b'B', Some(0)), (b'A', None)]),
-                Call::Watch(0, 9, &[]),
-                Call::Take(0, 9, &[Trade(b'A', 1)]),
-            ],
-        ),
-        // A key that is only owed keeps its own slot when others come and go.
-        (
-            2,
-            &[
-                Call::Add(0, b"A"),
-                Call::Put(&[Trade(b'A', 1)]),
-                Call::Close(0),
-                Call::Add(1, b"B"),
-                Call::Put(&[Trade(b'B', 1), Trade(b'B', 2), Trade(b'B', 3)]),
-                Call::Remove(1, b"B"),
-                Call::Add(0, b"CD"),
-                Call::Put(&[Trade(b'C', 1), Trade(b'D', 2), Trade(b'C', 3)]),
-                Call::Take(1, 9, &[Lost(b'B', 1), Trade(b'B', 2), Trade(b'B', 3)]),
-                Call::Take(0, 9, &[Lost(b'C', 1), Trade(b'D', 2), Trade(b'C', 3)]),
-            ],
-        ),
-    ];
-    for (cap, calls) in cases {
+    for (cap, calls) in CASES {
         let mut stripe = StreamStripe::new(alloc, cap)?;
         make_all(&rt, alloc, &mut stripe, calls)?;
     }
