@@ -1,6 +1,6 @@
 -- Worked texts, by evaluation: what check and fmt print of their lines, which stand here with the newest first.
 use Rattle.std.specs.Fmt.{digits}
-use Rattle.std.proofs.Common.{◌^◌, ◌-◌, ◌≡◌, ℕ, ◌∷◌, [], ◌++◌, List, refl}
+use Rattle.std.proofs.Common.{◌≡◌, ℕ, ◌∷◌, [], ◌++◌, List, refl}
 use Rattle.std.specs.Prelude.{codes}
 use Rattle.qd_decimal.specs.Reading.{dec_of, point_at, rest_at, whole_at, digits_end, zeros_end, int_of, count_of}
 use Rattle.qd_decimal.specs.Texts.{dec_text, magnitude_text}

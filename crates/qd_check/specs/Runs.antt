@@ -5,7 +5,6 @@ use Rattle.qd_grammar.specs.declared.item.Mode.TheVariants.{File}
 use Rattle.qd_items.specs.declared.ends.RunEnd.{RunEnd}
 use Rattle.qd_items.specs.declared.ends.RunEnd.TheVariants.{WriteFault, NoMemory}
 use Rattle.qd_items.specs.declared.ends.TextEnd.{TextEnd}
-use Rattle.qd_items.specs.declared.ends.TextEnd.TheVariants as texts
 use Rattle.qd_items.specs.Deciding.{Decides}
 use Rattle.qd_items.specs.Ends.{IsEnded}
 use Rattle.qd_items.specs.Judging.{NoneBehind}

@@ -1,5 +1,5 @@
 -- What an item that is given leaves.
-use Rattle.std.proofs.Common.{◌≡◌, ℕ, ◌+◌, ◌-◌, ◌<◌, ◌≤◌, ◌^◌, true, Option, Some, None, is_some, List, [], ◌∷◌, length, slice_set, refl, ap, sym, ◌∙◌, arith, subst}
+use Rattle.std.proofs.Common.{◌≡◌, ℕ, ◌<◌, ◌≤◌, ◌^◌, true, Option, Some, None, is_some, List, [], ◌∷◌, length, slice_set, refl, ap, sym, ◌∙◌, arith, subst}
 use Rattle.qd_scheme.specs.declared.key.Key.{Key}
 use Rattle.qd_entries.specs.Entries.{AllBelow}
 use Rattle.qd_flags.specs.declared.commits.Floor.{Floor}

@@ -1,5 +1,5 @@
 -- Where only the room has changed.
-use Rattle.std.proofs.Common.{◌≡◌, ℕ, ◌+◌, ◌<◌, ◌≤◌, List, length, refl, ap, sym, ◌∙◌, arith}
+use Rattle.std.proofs.Common.{◌≡◌, ℕ, ◌≤◌, List, length, refl, ap, sym, ◌∙◌, arith}
 use Rattle.qd_table.specs.Tables.{Table}
 use Rattle.qd_table.specs.Steps.{IsSame}
 use Rattle.qd_hist_stand.specs.Stripes.{Shown, Track, Side}

@@ -1,7 +1,7 @@
 -- How many events of each slot were counted, while room is made for them.
 use Rattle.std.proofs.Common.{◌≡◌, ◌⊎◌, inl, inr, ℕ, zero, suc, ◌+◌, ◌<◌, ◌≤◌, Bool, true, false, nat_eq, Some, None, List, [], ◌∷◌, length, drop, slice_set, get_or-set_other, get_or-set_same, refl, ap, sym, ◌∙◌, arith, subst}
 use Rattle.qd_scheme.specs.declared.key.Event.{Event}
-use Rattle.qd_pend.proofs.ListLaws.{same, equal, unequal}
+use Rattle.qd_pend.proofs.ListLaws.{equal, unequal}
 use Rattle.qd_table.specs.Tables.{Table}
 use Rattle.qd_table.proofs.TableLaws.{apart-numbers}
 use Rattle.qd_hist_stand.specs.Stripes.{Track, Side}

@@ -1,5 +1,5 @@
 -- A client of a shared hub.
-use Rattle.std.specs.Prelude.{◌≡◌, ◌<◌, ℕ, List, All, length, Some, None, slice_get}
+use Rattle.std.specs.Prelude.{◌≡◌, ℕ, List, All, length, Some, None, slice_get}
 use Rattle.qd_gate.specs.declared.machine.Terms.{Terms}
 use Rattle.qd_gate.specs.Passes.{Pass}
 use Rattle.qd_row.specs.Passes.{IsFirst}

@@ -1,6 +1,6 @@
 -- A step leads from a past to a longer one, to an item or to the end.
-use Rattle.std.proofs.Common.{ℕ, ◌≡◌, ◌+◌, ◌-◌, ◌*◌, ◌<◌, ◌≤◌, ◌^◌, true, false, Option, Some, None, Ok, Err, List, [], ◌∷◌, ◌++◌, length, refl, sym, ◌∙◌, ap, subst, arith, append_assoc, inl, inr, length-append}
-use Rattle.std.specs.Prelude.{◌⊎◌, ◌==◌, Bool, cond}
+use Rattle.std.proofs.Common.{ℕ, ◌≡◌, ◌+◌, ◌<◌, ◌≤◌, ◌^◌, true, false, Option, Some, None, Ok, Err, List, [], ◌∷◌, ◌++◌, length, refl, sym, ◌∙◌, ap, subst, arith, append_assoc, inl, inr, length-append}
+use Rattle.std.specs.Prelude.{◌==◌, Bool, cond}
 use Rattle.std.proofs.lemmas.List.{append-nil}
 use Rattle.qd_grammar.specs.declared.item.Item.{Item}
 use Rattle.qd_grammar.specs.declared.item.Item.TheVariants as items

@@ -1,6 +1,5 @@
 -- What comes next of a text: an item, or its end with the cause.
 use Rattle.std.specs.Prelude.{ℕ, ◌≡◌, ◌⊎◌, ◌+◌, ◌<◌, ◌^◌, false, Option, List, ◌∷◌, ◌++◌, length}
-use Rattle.qd_grammar.specs.declared.item.Item.{Item}
 use Rattle.qd_grammar.specs.declared.item.Item.TheVariants as items
 use Rattle.qd_grammar.specs.declared.item.Mode.{Mode}
 use Rattle.qd_line.specs.Cutter.{IsHungry, IsTooLong}

@@ -8,7 +8,6 @@ use Rattle.qd_grammar.specs.declared.item.Mode.TheVariants.{File}
 use Rattle.qd_items.specs.declared.ends.RunEnd.{RunEnd}
 use Rattle.qd_items.specs.declared.ends.RunEnd.TheVariants as ends
 use Rattle.qd_items.specs.declared.ends.TextEnd.TheVariants as texts
-use Rattle.qd_items.specs.Ends.{IsEnded as IsTextEnded}
 use Rattle.qd_items.specs.Judging.{Numbered, said, state_of, with_said, items_of, stop_of, is_end}
 use Rattle.qd_items.specs.Judging.Stop.{Open, AtEnd}
 use Rattle.qd_items.specs.Runs.{run_end}

@@ -1,5 +1,5 @@
 -- How a step ends a run, and how it goes on.
-use Rattle.std.proofs.Common.{ℕ, ◌≡◌, ◌==◌, ◌⊎◌, inl, inr, true, false, Option, Some, None, Result, Ok, Err, List, [], ◌∷◌, ◌++◌, refl, sym, ◌∙◌, ap, append_assoc, length, subst}
+use Rattle.std.proofs.Common.{ℕ, ◌≡◌, ◌==◌, inl, inr, true, false, Option, Some, None, Result, Ok, Err, List, [], ◌∷◌, ◌++◌, refl, sym, ◌∙◌, ap, append_assoc, length, subst}
 use Rattle.std.proofs.lemmas.List.{append-nil}
 use Rattle.qd_buffer.specs.Filled.{Filled}
 use Rattle.qd_gate.specs.Logs.{entry}
@@ -12,13 +12,11 @@ use Rattle.qd_scheme.specs.declared.key.Record.{Record}
 use Rattle.qd_sub.specs.declared.sub.Sub.{Sub}
 use Rattle.qd_sub.specs.declared.op.Op.{Op}
 use Rattle.qd_sub.specs.declared.op.Reply.{Reply}
-use Rattle.qd_sub.specs.declared.op.Reply.TheVariants as replies
 use Rattle.qd_ticker.specs.Legal as ticker
 use Rattle.qd_ticker.specs.Stripes as ticker_stripes
 use Rattle.qd_stream.specs.Legal as stream
 use Rattle.qd_stream.specs.Stripes as stream_stripes
 use Rattle.qd_hist_rules.specs.declared.reply.HistoryReply.{HistoryReply}
-use Rattle.qd_hist_rules.specs.declared.reply.HistoryReply.TheVariants as events
 use Rattle.qd_hist_rules.specs.Legal as history
 use Rattle.qd_hist_stand.specs.Stripes as history_stripes
 use Rattle.qd_gate.specs.declared.machine.Terms.{Terms}

@@ -1,9 +1,8 @@
 -- Worked scripts, computed from the definitions alone.
-use Rattle.std.proofs.Common.{◌≡◌, ℕ, Some, None, List, [], ◌∷◌, ◌++◌, refl}
+use Rattle.std.proofs.Common.{◌≡◌, ℕ, Some, None, List, [], ◌∷◌, refl}
 use Rattle.std.specs.Prelude.{pos, codes, true, false}
 use Rattle.qd_scheme.specs.declared.key.Key.{Key}
 use Rattle.qd_scheme.specs.declared.key.Record.{Record}
-use Rattle.qd_sub.specs.declared.sub.Sub.{Sub}
 use Rattle.qd_sub.specs.declared.op.Op.TheVariants.{Add, Remove, Put}
 use Rattle.qd_grammar.specs.declared.item.Collector.TheVariants as collectors
 use Rattle.qd_grammar.specs.declared.item.Item.{Item}

@@ -1,5 +1,5 @@
 -- How a run ends, with the cause of each end.
-use Rattle.std.specs.Prelude.{ℕ, ◌≡◌, ◌⊎◌, ◌^◌, Bool, true, false, if◌then◌else◌, Option, List, [], ◌∷◌, ◌++◌, length}
+use Rattle.std.specs.Prelude.{ℕ, ◌≡◌, ◌⊎◌, Bool, true, false, if◌then◌else◌, Option, List, [], ◌∷◌, ◌++◌, length}
 use Rattle.qd_grammar.specs.declared.item.Item.TheVariants as items
 use Rattle.qd_grammar.specs.declared.item.Mode.TheVariants.{File}
 use Rattle.qd_items.specs.declared.ends.RunEnd.{RunEnd}

@@ -6,7 +6,7 @@ use Rattle.qd_scheme.specs.declared.defs.RecordDef.{RecordDef}
 use Rattle.qd_sub.specs.declared.op.Op.{Op}
 use Rattle.qd_sub.specs.declared.op.Op.TheVariants.{Add, Remove, Close, Put, Take, Watch}
 use Rattle.qd_sub.specs.declared.op.Reply.{Reply}
-use Rattle.qd_sub.specs.declared.op.Reply.TheVariants.{Done, Items, Wants, TooManyKeys, TooManySubs, NoMemory}
+use Rattle.qd_sub.specs.declared.op.Reply.TheVariants.{Done, Items, Wants, TooManyKeys, TooManySubs}
 use Rattle.qd_ticker.specs.Legal as ticker
 use Rattle.qd_ticker.specs.Stripes as ticker_stripes
 use Rattle.qd_stream.specs.Legal as stream

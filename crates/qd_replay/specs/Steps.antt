@@ -13,7 +13,7 @@ use Rattle.qd_grammar.specs.declared.item.Collector.{Collector}
 use Rattle.qd_grammar.specs.declared.item.Item.{Item}
 use Rattle.qd_grammar.specs.declared.item.Message.{Message}
 use Rattle.qd_items.specs.declared.ends.RunEnd.{RunEnd}
-use Rattle.qd_items.specs.declared.ends.RunEnd.TheVariants.{Done, Bad, BadStep, Refused, WriteFault, Spent, NoMemory}
+use Rattle.qd_items.specs.declared.ends.RunEnd.TheVariants.{Done, BadStep, Refused, WriteFault, Spent, NoMemory}
 use Rattle.qd_items.specs.Judging.{is_end}
 use Rattle.qd_replay.specs.declared.group.Joined.{Joined}
 use Rattle.qd_replay.specs.declared.group.Joined.TheVariants as joins

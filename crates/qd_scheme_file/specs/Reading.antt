@@ -1,5 +1,5 @@
 -- What the small steps of reading a scheme file do.
-use Rattle.std.specs.Prelude.{ℕ, zero, suc, ◌+◌, ◌≡◌, ◌≤◌, ◌<◌, ◌^◌, List, [], ◌∷◌, ◌++◌, length, Option, Result, Ok, Err}
+use Rattle.std.specs.Prelude.{ℕ, zero, suc, ◌+◌, ◌≡◌, ◌≤◌, ◌<◌, ◌^◌, List, [], ◌++◌, length, Option, Result, Ok, Err}
 use Rattle.qd_line.specs.Held.{Held}
 use Rattle.qd_outside.specs.Reading.{Took, IsSpent}
 use Rattle.qd_text.specs.SchemeLines.{SchemeText}

@@ -1,5 +1,5 @@
 -- A new stripe stands for the empty log.
-use Rattle.std.proofs.Common.{◌≡◌, ℕ, suc, zero, ◌<◌, true, false, ◌||◌, [], ◌∷◌, replicate, refl, ap, sym, ◌∙◌, subst, get_or}
+use Rattle.std.proofs.Common.{◌≡◌, ℕ, suc, zero, true, false, ◌||◌, [], replicate, refl, ap, sym, ◌∙◌, subst, get_or}
 use Rattle.std.proofs.lemmas.List.{length-replicate}
 use Rattle.qd_sub.specs.Logs.{after_log}
 use Rattle.qd_sub.specs.Subscriptions.{subscribed}

@@ -1,5 +1,5 @@
 -- What each act of a log does to the past that a stripe stands for.
-use Rattle.std.proofs.Common.{◌≡◌, ℕ, suc, zero, ◌<◌, ◌≤◌, ◌-◌, Bool, true, false, ◌||◌, ◌&&◌, if◌then◌else◌, nat_eq, List, [], ◌∷◌, ◌++◌, length, map, drop, take, refl, ap, sym, ◌∙◌, subst, arith, length-set, ◌⊎◌, inl, inr}
+use Rattle.std.proofs.Common.{◌≡◌, ℕ, suc, zero, ◌<◌, Bool, true, false, ◌||◌, if◌then◌else◌, nat_eq, List, [], ◌∷◌, ◌++◌, length, map, drop, take, refl, ap, sym, ◌∙◌, subst, arith, length-set, ◌⊎◌, inl, inr}
 use Rattle.std.specs.Prelude.{Option, Some, None, slice_get}
 use Rattle.std.specs.Option.{option_map}
 use Rattle.std.proofs.lemmas.Bool.{eqb-true}
@@ -7,7 +7,6 @@ use Rattle.std.proofs.Math.ListN.{get_or}
 use Rattle.qd_scheme.specs.declared.key.Key.{Key}
 use Rattle.qd_sub.specs.Acts.{Subscribed, Unsubscribed, Came, Gave}
 use Rattle.qd_sub.specs.Subscriptions.{subscribed}
-use Rattle.qd_sub.specs.Logs.{after}
 use Rattle.qd_sub.proofs.SinceLaws.{same_number}
 use Rattle.qd_slots.specs.Holds.{is_subscribed}
 use Rattle.qd_table.specs.Tables.{Table, key_at, slot_for, hold_for}

@@ -1,7 +1,7 @@
 -- What an agent's outbox holds, by the slots of the keys.
 use Rattle.std.specs.Prelude.{ℕ, suc, ◌+◌, ◌≡◌, ◌≤◌, ◌<◌, Bool, true, ◌||◌, min, nat_eq, nat_lt, if◌then◌else◌, Option, Some, None, List, [], ◌∷◌, ◌++◌, length, map, drop, slice_index}
 use Rattle.std.specs.List.{list_any}
-use Rattle.qd_pend.specs.Slots.{has, EachBelow}
+use Rattle.qd_pend.specs.Slots.{EachBelow}
 use Rattle.qd_stream.specs.declared.outbox.Waiting.{Waiting}
 use Rattle.qd_stream.specs.declared.outbox.SlotLoss.{SlotLoss}
 use Rattle.qd_stream.specs.Items.{weight}

@@ -1,5 +1,5 @@
 -- What a gift leaves, and after which moment the stripe then stands.
-use Rattle.std.proofs.Common.{◌≡◌, ◌⊎◌, inl, inr, ℕ, ◌<◌, ◌≤◌, Bool, true, false, ◌&&◌, ◌||◌, if◌then◌else◌, nat_eq, Option, Some, None, List, [], ◌∷◌, refl, ap, sym, ◌∙◌, subst}
+use Rattle.std.proofs.Common.{◌≡◌, ◌⊎◌, inl, inr, ℕ, Bool, true, false, ◌&&◌, if◌then◌else◌, nat_eq, Option, Some, None, List, [], ◌∷◌, refl, ap, sym, ◌∙◌, subst}
 use Rattle.std.specs.List.{filter_map, cons_option}
 use Rattle.std.specs.Option.{option_and_then}
 use Rattle.qd_scheme.specs.declared.key.Key.{Key}
@@ -8,9 +8,8 @@ use Rattle.qd_pend.specs.Slots.{SlotList, has, without, first_in, rest_of, EachO
 use Rattle.qd_pend.proofs.ListLaws.{equal, has-here, without-first}
 use Rattle.qd_sub.specs.Acts.{Act, Gave}
 use Rattle.qd_sub.specs.Subscriptions.{subscribed, kept}
-use Rattle.qd_sub.specs.Logs.{after}
 use Rattle.qd_sub.proofs.SubscriptionLaws.{kept-gave}
-use Rattle.qd_table.specs.Tables.{key_at, queue_of}
+use Rattle.qd_table.specs.Tables.{key_at}
 use Rattle.qd_table.specs.Standing.{StandsFor}
 use Rattle.qd_table.proofs.TableLaws.{true-false}
 use Rattle.qd_ticker.specs.Pending.{TickerMoment, last, last_record, has_items, pending}

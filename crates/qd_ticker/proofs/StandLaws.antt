@@ -1,5 +1,5 @@
 -- After each call the stripe stands for the moment with its act.
-use Rattle.std.proofs.Common.{◌≡◌, ◌⊎◌, inl, inr, ℕ, zero, suc, ◌<◌, ◌≤◌, Bool, true, false, ◌&&◌, ◌||◌, not, if◌then◌else◌, nat_eq, Option, Some, None, is_some, List, [], ◌∷◌, replicate, refl, ap, sym, ◌∙◌, subst}
+use Rattle.std.proofs.Common.{◌≡◌, ◌⊎◌, inl, inr, ℕ, zero, suc, Bool, true, false, ◌&&◌, not, if◌then◌else◌, nat_eq, Option, Some, None, is_some, List, [], ◌∷◌, replicate, refl, ap, sym, ◌∙◌, subst}
 use Rattle.qd_scheme.specs.declared.key.Key.{Key}
 use Rattle.qd_scheme.specs.declared.key.Record.{Record}
 use Rattle.qd_scheme.specs.Keys.{key_eq}
@@ -11,7 +11,7 @@ use Rattle.qd_sub.specs.Since.{by_since, begun_within}
 use Rattle.qd_sub.specs.Subscriptions.{subscribed, wanted, kept}
 use Rattle.qd_sub.proofs.SubscriptionLaws.{kept-unwanted, kept-came_other, kept-came_same, kept-came_unwanted, kept-sub, kept-closed, kept-unsub_wanted, wanted-subscribed}
 use Rattle.qd_slots.specs.Holds.{is_subscribed}
-use Rattle.qd_table.specs.Tables.{key_at, slot_for, hold_for, limit_by, is_wanted_slot, is_used, queue_of, no_table}
+use Rattle.qd_table.specs.Tables.{key_at, slot_for, hold_for, limit_by, is_wanted_slot, is_used, no_table}
 use Rattle.qd_table.specs.Standing.{StandsFor}
 use Rattle.qd_table.proofs.TableLaws.{key_at-found, key_at-subscribed, wanted-someone, some-same, some-none, true-false}
 use Rattle.qd_ticker.specs.Pending.{TickerMoment, last, last_record, pending}

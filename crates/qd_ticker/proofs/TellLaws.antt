@@ -1,10 +1,10 @@
 -- After tellings the stripe stands for the moment with their acts.
-use Rattle.std.proofs.Common.{◌≡◌, ◌⊎◌, inl, inr, ℕ, ◌<◌, ◌≤◌, Bool, true, false, ◌&&◌, ◌||◌, not, if◌then◌else◌, nat_eq, Option, Some, None, List, [], ◌∷◌, map, take, refl, ap, sym, ◌∙◌, subst}
+use Rattle.std.proofs.Common.{◌≡◌, ◌⊎◌, inl, inr, ℕ, ◌≤◌, Bool, true, false, ◌&&◌, not, if◌then◌else◌, nat_eq, Option, Some, None, List, [], ◌∷◌, map, take, refl, ap, sym, ◌∙◌, subst}
 use Rattle.qd_scheme.specs.declared.key.Key.{Key}
 use Rattle.qd_scheme.specs.declared.key.Record.{Record}
 use Rattle.qd_pend.proofs.ListLaws.{equal}
 use Rattle.qd_sub.specs.Acts.{Told}
-use Rattle.qd_sub.specs.Subscriptions.{subscribed, kept}
+use Rattle.qd_sub.specs.Subscriptions.{kept}
 use Rattle.qd_sub.specs.Watching.{watched}
 use Rattle.qd_sub.specs.Logs.{after}
 use Rattle.qd_sub.specs.declared.sub.Want.{Want}
@@ -17,7 +17,6 @@ use Rattle.qd_table.specs.Tables.{Table, key_at, hold_for, is_used, queue_of}
 use Rattle.qd_table.specs.Steps.{IsTold, TellsAll}
 use Rattle.qd_table.proofs.TableLaws.{below-any, subscribed-held, or-left, true-false}
 use Rattle.qd_ticker.specs.Pending.{TickerMoment, last, last_record}
-use Rattle.qd_ticker.specs.Pending as asked
 use Rattle.qd_ticker.specs.Kept.{IsKept, IsIdle}
 use Rattle.qd_ticker.specs.Stripes.{Shown, StandsAt, last_at, queue_at, no_keeps}
 use Rattle.qd_ticker.specs.Steps.{IsTelling}

@@ -1,5 +1,5 @@
 -- Calls that are made of steps: where the stripe stands between them.
-use Rattle.std.proofs.Common.{◌≡◌, ◌⊎◌, inl, inr, ℕ, suc, zero, ◌+◌, ◌-◌, ◌<◌, ◌≤◌, true, false, ◌&&◌, not, if◌then◌else◌, nat_eq, Option, Some, None, is_some, List, [], ◌∷◌, ◌++◌, length, map, take, drop, get_or, refl, ap, sym, ◌∙◌, subst, arith, add-one}
+use Rattle.std.proofs.Common.{◌≡◌, inl, inr, ℕ, suc, zero, ◌+◌, ◌<◌, ◌≤◌, true, false, ◌&&◌, not, if◌then◌else◌, nat_eq, Option, Some, None, is_some, List, [], ◌∷◌, ◌++◌, length, map, take, drop, get_or, refl, ap, sym, ◌∙◌, subst, arith, add-one}
 use Rattle.std.proofs.Math.Seq.{drop-cons}
 use Rattle.std.proofs.Math.ListN.{drop_of_length-le}
 use Rattle.std.proofs.lemmas.List.{append-nil, append_assoc}
@@ -14,7 +14,7 @@ use Rattle.qd_sub.specs.declared.sub.Sub.{Sub}
 use Rattle.qd_sub.specs.Acts.{Act, Subscribed, Unsubscribed, Closed, Came, Gave}
 use Rattle.qd_sub.specs.Subscriptions.{subscribed, keys_of}
 use Rattle.qd_sub.specs.Logs.{after, ends_of}
-use Rattle.qd_sub.proofs.KeyEnds.{keys-rest}
+use Rattle.qd_sub.proofs.KeyEnds.{filter-first, keys-rest}
 use Rattle.qd_sub.proofs.OrderLaws.{once}
 use Rattle.qd_sub.proofs.SubscriptionLaws.{kept-gave}
 use Rattle.qd_slots.specs.Holds.{is_subscribed}

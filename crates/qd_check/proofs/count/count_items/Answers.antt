@@ -1,4 +1,4 @@
-use Rattle.std.proofs.Common.{◌≡◌, refl, ◌∙◌, ap}
+use Rattle.std.proofs.Common.{refl, ◌∙◌, ap}
 use Rattle.qd_items.specs.Standing.{Kept}
 use Rattle.qd_check.proofs.CheckLaws.{count_none, count_went, count_ended, same_reads}
 use Rattle.qd_check.proofs.count.count_items.Goals as goal

@@ -1,4 +1,4 @@
-use Rattle.std.proofs.Common.{◌≡◌, refl, ◌∙◌, ap}
+use Rattle.std.proofs.Common.{refl, ◌∙◌, ap}
 use Rattle.qd_items.specs.Standing.{Kept}
 use Rattle.qd_check.proofs.FmtLaws.{print_none, print_went, print_broke, print_ended}
 use Rattle.qd_check.proofs.print.print_lines.Goals as goal

@@ -1,4 +1,4 @@
-use Rattle.std.proofs.Common.{◌≡◌, ◌<◌, ◌∙◌, List, ap, sym, arith, length, slice_set}
+use Rattle.std.proofs.Common.{◌<◌, ◌∙◌, List, ap, sym, arith, length, slice_set}
 use Rattle.std.proofs.lemmas.Result.{on_ok_weaker}
 use Rattle.qd_scheme.specs.declared.key.Event.{Event}
 use Rattle.qd_history.proofs.TallyLaws.{tallied-some}

@@ -1,5 +1,5 @@
 use denote.Param.Send.{sendable}
-use Rattle.std.proofs.Common.{◌≡◌, arith}
+use Rattle.std.proofs.Common.{arith}
 use Rattle.qd_history.proofs.Sending.{stripe_send}
 use Rattle.qd_hist_stand.specs.Stripes.{terms_in}
 use Rattle.qd_hist_rules.specs.Legal.{terms_of}

@@ -1,4 +1,4 @@
-use Rattle.std.proofs.Common.{◌≡◌, arith}
+use Rattle.std.proofs.Common.{arith}
 use Rattle.qd_hist_stand.specs.Stripes.{Stands, terms_in}
 use Rattle.qd_hist_rules.specs.Legal.{terms_of}
 use Rattle.qd_hub.proofs.Making.{none_new, one_more_new, as_many_new}

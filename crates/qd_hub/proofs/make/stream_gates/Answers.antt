@@ -1,4 +1,4 @@
-use Rattle.std.proofs.Common.{◌≡◌, ap, arith}
+use Rattle.std.proofs.Common.{ap, arith}
 use Rattle.qd_stream.specs.Legal.{terms_of}
 use Rattle.qd_hub.proofs.Making.{none_first, one_more_first, as_many_first}
 use Rattle.qd_hub.proofs.make.stream_gates.Goals as goal

@@ -1,4 +1,4 @@
-use Rattle.std.proofs.Common.{◌≡◌, ap, arith}
+use Rattle.std.proofs.Common.{ap, arith}
 use Rattle.qd_stream.specs.Stripes.{Shown, Stands}
 use Rattle.qd_stream.specs.Legal.{terms_of}
 use Rattle.qd_hub.proofs.Making.{none_new, one_more_new, as_many_new}

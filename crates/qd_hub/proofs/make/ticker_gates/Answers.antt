@@ -1,4 +1,4 @@
-use Rattle.std.proofs.Common.{◌≡◌, refl, arith}
+use Rattle.std.proofs.Common.{refl, arith}
 use Rattle.qd_ticker.specs.Legal.{no_terms}
 use Rattle.qd_hub.proofs.Making.{none_first, one_more_first, as_many_first}
 use Rattle.qd_hub.proofs.make.ticker_gates.Goals as goal

@@ -1,4 +1,4 @@
-use Rattle.std.proofs.Common.{◌≡◌, refl, arith}
+use Rattle.std.proofs.Common.{refl, arith}
 use Rattle.qd_ticker.specs.Stripes.{Shown, Stands}
 use Rattle.qd_ticker.specs.Legal.{no_terms}
 use Rattle.qd_hub.proofs.Making.{none_new, one_more_new, as_many_new}

@@ -1,4 +1,4 @@
-use Rattle.std.proofs.Common.{◌≡◌, ◌+◌, ◌≤◌, ◌^◌, [], ◌++◌, refl, ◌∙◌, arith, length-append}
+use Rattle.std.proofs.Common.{[], ◌++◌, refl, ◌∙◌, arith, length-append}
 use Rattle.qd_outside.proofs.Streams.{Took-none, Took-more}
 use Rattle.qd_scheme_file.proofs.EndLaws.{nothing_taken, no_memory, refused_ends, full_ends, none_left, some_left, piece_ends, piece_taken, some_read}
 use Rattle.qd_scheme_file.proofs.reading.read_all.Goals as goal

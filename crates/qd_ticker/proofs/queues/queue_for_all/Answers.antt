@@ -1,4 +1,4 @@
-use Rattle.std.proofs.Common.{arith, refl, ◌∙◌, ◌≡◌, ◌<◌, ◌≤◌}
+use Rattle.std.proofs.Common.{arith, refl, ◌∙◌}
 use Rattle.qd_ticker.proofs.SoundLaws.{queue-found, queue-none, queue-next, queue-all}
 use Rattle.qd_ticker.proofs.queues.queue_for_all.Goals as goal
 

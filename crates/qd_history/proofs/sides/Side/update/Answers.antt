@@ -1,4 +1,4 @@
-use Rattle.std.proofs.Common.{◌≡◌, ◌≤◌, ◌+◌, ◌<◌, ◌∙◌, length, sym, ap, subst, arith, get_or-set_same}
+use Rattle.std.proofs.Common.{◌+◌, ◌<◌, ◌∙◌, length, sym, ap, subst, arith, get_or-set_same}
 use Rattle.qd_hist_stand.specs.Stripes.{Side, no_feed}
 use Rattle.qd_slots.proofs.HoldLaws.{at-read}
 use Rattle.qd_history.specs.Sides.{spared_at, HasRoom, owed_count}

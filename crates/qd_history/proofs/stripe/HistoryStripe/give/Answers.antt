@@ -1,4 +1,4 @@
-use Rattle.std.proofs.Common.{◌≡◌, ◌<◌, ◌+◌, ◌^◌, ℕ, length, slice_set, refl, ap, sym, ◌∙◌, arith, subst}
+use Rattle.std.proofs.Common.{◌≡◌, ◌<◌, ◌^◌, ℕ, length, slice_set, refl, ap, sym, ◌∙◌, arith, subst}
 use Rattle.std.specs.Prelude.{vec_len}
 use Rattle.qd_pend.specs.Slots.{first_in}
 use Rattle.qd_slots.proofs.HoldLaws.{at-read}

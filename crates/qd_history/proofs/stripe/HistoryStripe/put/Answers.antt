@@ -1,4 +1,4 @@
-use Rattle.std.proofs.Common.{◌≡◌, ◌≤◌, ◌+◌, ◌<◌, ℕ, None, length, true, false, refl, ap, sym, ◌∙◌, arith, subst, List, [], ◌∷◌}
+use Rattle.std.proofs.Common.{◌≡◌, ◌≤◌, ◌+◌, ℕ, None, length, true, false, refl, ap, sym, ◌∙◌, arith, subst, List, [], ◌∷◌}
 use Rattle.std.specs.Prelude.{vec_len}
 use Rattle.std.specs.Prelude.{if◌then◌else◌}
 use Rattle.qd_scheme.specs.declared.key.Event.{Event}

@@ -1,4 +1,4 @@
-use Rattle.std.proofs.Common.{◌≡◌, ◌<◌, ◌≤◌, ◌+◌, ◌++◌, ◌∷◌, [], List, None, length, length-append, refl, ap, sym, ◌∙◌, arith}
+use Rattle.std.proofs.Common.{◌≡◌, ◌+◌, ◌++◌, ◌∷◌, [], List, None, length, length-append, refl, ap, sym, ◌∙◌, arith}
 use Rattle.qd_hist_rules.specs.declared.item.HistItem.{HistItem}
 use Rattle.qd_history.specs.Steps.{Gift, last_slot}
 use Rattle.qd_history.proofs.WalkLaws.{gives-none, gives-snoc, items-snoc, last-snoc, last-none}

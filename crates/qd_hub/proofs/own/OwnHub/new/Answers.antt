@@ -1,5 +1,5 @@
 use denote.Param.Send.{sendable}
-use Rattle.std.proofs.Common.{◌≡◌, ℕ, List, sym, subst, arith}
+use Rattle.std.proofs.Common.{ℕ, List, sym, subst, arith}
 use Rattle.qd_ticker.specs.Legal as ticker_log
 use Rattle.qd_ticker.specs.Stripes as ticker_stripes
 use Rattle.qd_stream.specs.Legal as stream_log

@@ -1,5 +1,5 @@
 use denote.Param.Send.{sendable}
-use Rattle.std.proofs.Common.{◌≡◌, sym, subst}
+use Rattle.std.proofs.Common.{sym, subst}
 use Rattle.qd_hist_rules.specs.Legal.{IsLegal}
 use Rattle.qd_history.proofs.Sending.{stripe_send}
 use Rattle.qd_hist_stand.specs.Stripes.{Stands, terms_in}

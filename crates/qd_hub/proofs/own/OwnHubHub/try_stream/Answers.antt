@@ -1,4 +1,4 @@
-use Rattle.std.proofs.Common.{◌≡◌, sym, subst}
+use Rattle.std.proofs.Common.{sym, subst}
 use Rattle.qd_stream.specs.Legal.{terms_of, IsLegal}
 use Rattle.qd_stream.specs.Stripes.{Shown, Stands}
 use Rattle.qd_hub.specs.Configs.{stream_terms}

@@ -1,4 +1,4 @@
-use Rattle.std.proofs.Common.{◌≡◌, refl, sym, subst}
+use Rattle.std.proofs.Common.{refl, sym, subst}
 use Rattle.qd_ticker.specs.Legal.{no_terms, IsLegal}
 use Rattle.qd_ticker.specs.Stripes.{Shown, Stands}
 use Rattle.qd_hub.specs.Owns.{Own, ticker_at, stream_at, history_at}

@@ -1,4 +1,4 @@
-use Rattle.std.proofs.Common.{◌≡◌, ◌≤◌, ◌<◌, ◌∙◌, arith}
+use Rattle.std.proofs.Common.{◌∙◌, arith}
 use Rattle.qd_items.specs.declared.items.NextItem.TheVariants as nexts
 use Rattle.qd_items.proofs.StepLaws.{went_on, same_faults, comes_next, step_less, next_less, lowers_more}
 use Rattle.qd_items.proofs.items.Items.advance.Goals as goal

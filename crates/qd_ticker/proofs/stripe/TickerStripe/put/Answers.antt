@@ -1,4 +1,4 @@
-use Rattle.std.proofs.Common.{arith, ◌∙◌}
+use Rattle.std.proofs.Common.{arith}
 use Rattle.qd_ticker.proofs.SoundLaws.{sound-put}
 use Rattle.qd_ticker.proofs.stripe.TickerStripe.put.Goals as goal
 

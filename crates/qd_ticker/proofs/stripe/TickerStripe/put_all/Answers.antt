@@ -1,4 +1,4 @@
-use Rattle.std.proofs.Common.{arith, ◌∙◌}
+use Rattle.std.proofs.Common.{arith}
 use Rattle.qd_ticker.proofs.WayLaws.{put_lead, puts-next, puts-end}
 use Rattle.qd_ticker.proofs.stripe.TickerStripe.put_all.Goals as goal
 

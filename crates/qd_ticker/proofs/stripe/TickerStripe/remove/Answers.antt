@@ -1,4 +1,4 @@
-use Rattle.std.proofs.Common.{arith, ◌∙◌}
+use Rattle.std.proofs.Common.{arith}
 use Rattle.qd_ticker.proofs.WayLaws.{end_lead, ends-next, ends-end}
 use Rattle.qd_ticker.proofs.stripe.TickerStripe.remove.Goals as goal
 

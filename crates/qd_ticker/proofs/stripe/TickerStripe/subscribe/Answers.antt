@@ -1,4 +1,4 @@
-use Rattle.std.proofs.Common.{arith, sym, ◌∙◌, ◌≤◌, subst}
+use Rattle.std.proofs.Common.{arith, sym, subst}
 use Rattle.qd_ticker.specs.Steps.{HasRoom}
 use Rattle.qd_ticker.proofs.SoundLaws.{sound-subscribed}
 use Rattle.qd_ticker.proofs.stripe.TickerStripe.subscribe.Goals as goal

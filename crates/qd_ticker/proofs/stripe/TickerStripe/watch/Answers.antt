@@ -1,4 +1,4 @@
-use Rattle.std.proofs.Common.{take, ◌∙◌}
+use Rattle.std.proofs.Common.{take}
 use Rattle.qd_table.specs.Tables.{queue_of}
 use Rattle.qd_ticker.proofs.SoundLaws.{sound-told}
 use Rattle.qd_ticker.proofs.stripe.TickerStripe.watch.Goals as goal
