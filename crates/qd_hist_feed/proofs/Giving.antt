@@ -24,7 +24,7 @@ use Rattle.qd_hist_rules.specs.declared.item.HistItem.{HistItem}
 use Rattle.qd_hist_rules.specs.Moments.{HistMoment, events, given, begins}
 use Rattle.qd_hist_rules.specs.Source.{source, Commit, commits, last, count}
 use Rattle.qd_hist_rules.specs.Agent as agent
-use Rattle.qd_hist_rules.specs.Agent.{agent_floor, begin_moment, since_begin_given, after_end, at_end, snapshot, numbered, shares_after, shares_since_begin, owed_after, with_item, with_items}
+use Rattle.qd_hist_rules.specs.Agent.{agent_floor, begin_moment, since_begin_given, after_end, at_end, snapshot, numbered, shares_after, shares_since_begin, with_item, with_items}
 use Rattle.qd_hist_rules.specs.Standing.{standing, is_begun, is_ended, has_overflowed}
 use Rattle.qd_hist_rules.specs.Lawful.{Lawful, LawfulItem, bare_flags, is_event, same_cells, at_index, snapshot_before, width_of}
 use Rattle.qd_hist_rules.specs.Snapshots.{AllAbove, Inside}

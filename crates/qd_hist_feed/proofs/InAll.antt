@@ -21,7 +21,7 @@ use Rattle.qd_hist_rules.specs.declared.item.HistItem.{HistItem}
 use Rattle.qd_hist_rules.specs.Moments.{HistMoment, events}
 use Rattle.qd_hist_rules.specs.Source.{Commit, made, is_snapshot}
 use Rattle.qd_hist_rules.specs.Agent as agent
-use Rattle.qd_hist_rules.specs.Agent.{agent_floor, snapshot, share, share_from, numbered, shares_since_begin}
+use Rattle.qd_hist_rules.specs.Agent.{agent_floor, snapshot, share, numbered, shares_since_begin}
 use Rattle.qd_hist_rules.specs.Standing.{Standing, standing, begun_by, settled_by, behind, behind_in_all, passes_hcap, overflows_by, all_settled, is_snapshot_commit, restarts, is_begun, is_ended, has_overflowed}
 use Rattle.qd_hist_feed.specs.declared.feed.Stage.{Stage}
 use Rattle.qd_hist_feed.specs.declared.feed.Stage.TheVariants.{Waiting, Sweeping, Ended}

@@ -18,7 +18,7 @@ use Rattle.qd_hist_rules.specs.declared.item.HistItem.{HistItem}
 use Rattle.qd_hist_rules.specs.Moments.{HistAct, HistMoment, events, gives, subscribes}
 use Rattle.qd_hist_rules.specs.Source.{Commit, made, last, count}
 use Rattle.qd_hist_rules.specs.Agent as agent
-use Rattle.qd_hist_rules.specs.Agent.{agent_floor, begin_moment, since_begin_given, after_end, at_end, snapshot, share_from, share, owed_after, above, passed_all, numbered, shares_after, shares_since_begin, with_items}
+use Rattle.qd_hist_rules.specs.Agent.{agent_floor, begin_moment, since_begin_given, after_end, at_end, snapshot, share_from, share, owed_after, above, numbered, shares_after, shares_since_begin, with_items}
 use Rattle.qd_hist_rules.specs.Standing.{standing, is_begun, has_overflowed, restarts, overflows_by, all_settled, is_snapshot_commit}
 use Rattle.qd_hist_rules.specs.Lawful.{at_index, Lawful}
 use Rattle.qd_hist_rules.specs.Snapshots.{AllAbove}

@@ -1,5 +1,5 @@
 -- Scheme and text alone decide how a run ends in which nothing fails.
-use Rattle.std.proofs.Common.{◌≡◌, ℕ, Bool, true, false, List, Option, Some, None, refl, sym, ◌∙◌, ap, subst, inl, inr}
+use Rattle.std.proofs.Common.{◌≡◌, ℕ, Bool, true, List, Option, Some, None, sym, ◌∙◌, ap, subst, inl, inr}
 use Rattle.std.specs.Prelude.{Result, Ok, Err, ◌⊎◌, IfSome}
 use Rattle.qd_check.specs.Printing.{check_text, fmt_text}
 use Rattle.qd_check.specs.Runs.{Outside, IsFlushed}
@@ -11,11 +11,10 @@ use Rattle.qd_outside.specs.Opening.{FilesState, OpensIn, IsHeld, LeftOf}
 use Rattle.qd_outside.specs.Writing.{Gained}
 use Rattle.qd_replay.specs.Ends.{IsFlushed as ReplayFlushed}
 use Rattle.qd_replay.specs.Settings.{Setting}
-use Rattle.qd_scheme.specs.Builtin.{builtin_defs}
 use Rattle.qd_scheme.specs.declared.defs.RecordDef.{RecordDef}
 use Rattle.qd_scheme_file.specs.declared.no_scheme.NoScheme.{NoScheme}
 use Rattle.qd_scheme_file.specs.declared.no_scheme.NoScheme.TheVariants as schemes
-use Rattle.qd_scheme_file.specs.Ends.{Ends as FileEnds, Decides as FileDecides}
+use Rattle.qd_scheme_file.specs.Ends.{Ends as FileEnds}
 use Rattle.qd_scheme_file.proofs.EndLaws.{decided, decided_ok}
 use Rattle.qd_words.specs.Asking.{Asked}
 use Rattle.qd_words.specs.declared.ask.Command.{Command}
@@ -23,7 +22,7 @@ use Rattle.qd_words.specs.declared.ask.Command.TheVariants.{Check, Fmt, Replay}
 use Rattle.qds_tools.specs.declared.program_end.ProgramEnd.{ProgramEnd}
 use Rattle.qds_tools.specs.declared.program_end.ProgramEnd.TheVariants.{Usage, Refused, Ran}
 use Rattle.qds_tools.specs.Commands.{setting_of, RunsBy, LeadsTo}
-use Rattle.qds_tools.specs.Program.{World, IsReadOn, SchemeComes, RunsOn, FileRuns, Ends, HasText, IsScheme, IsText, NoFault}
+use Rattle.qds_tools.specs.Program.{World, IsReadOn, SchemeComes, RunsOn, Ends, HasText, IsScheme, IsText, NoFault}
 use Rattle.qds_tools.specs.Statuses.{status_of, Reports}
 
 -- what is left of a file that was opened, where that is told

@@ -1,5 +1,5 @@
 -- Pieces of a text that are written one behind the other.
-use Rattle.std.proofs.Common.{ℕ, Bool, true, false, List, Option, ◌++◌}
+use Rattle.std.proofs.Common.{ℕ, Bool, true, false, List, Option}
 use Rattle.qd_outside.specs.Writing.{Writes}
 use Rattle.qd_outside.proofs.Streams.{written_after, cut_after, cut_more}
 use Rattle.qds_tools.specs.Telling.{Continues}

@@ -1,7 +1,7 @@
 -- What the run of each command does, and to which end a text leads it.
-use Rattle.std.specs.Prelude.{ℕ, ◌≡◌, ◌⊎◌, Bool, List, Option, Some, None}
+use Rattle.std.specs.Prelude.{ℕ, ◌≡◌, ◌⊎◌, List, Option, Some, None}
 use Rattle.qd_check.specs.Printing.{check_text, fmt_text}
-use Rattle.qd_check.specs.Runs.{Outside, Runs, IsFlushed, IsDecided}
+use Rattle.qd_check.specs.Runs.{Outside, Runs, IsDecided}
 use Rattle.qd_grammar.specs.declared.item.Mode.TheVariants.{File}
 use Rattle.qd_items.specs.declared.ends.RunEnd.{RunEnd}
 use Rattle.qd_items.specs.declared.ends.RunEnd.TheVariants as runs

@@ -1,11 +1,10 @@
 -- What a run of the program reads and prints, and how it ends.
 use Rattle.std.specs.Prelude.{ℕ, ◌≡◌, ◌⊎◌, Bool, true, false, List, Option, Some, None, Result, Ok, Err}
-use Rattle.qd_check.specs.Runs.{Outside, IsFlushed}
+use Rattle.qd_check.specs.Runs.{IsFlushed}
 use Rattle.qd_items.specs.declared.ends.RunEnd.{RunEnd}
 use Rattle.qd_items.specs.declared.ends.RunEnd.TheVariants as runs
 use Rattle.qd_outside.specs.Causes.{Rose}
 use Rattle.qd_outside.specs.Opening.{FilesState, OpensIn}
-use Rattle.qd_outside.specs.Writing.{Gained}
 use Rattle.qd_replay.specs.Settings.{Setting}
 use Rattle.qd_scheme.specs.Builtin.{builtin_defs}
 use Rattle.qd_scheme.specs.declared.defs.RecordDef.{RecordDef}
@@ -16,7 +15,7 @@ use Rattle.qd_words.specs.Asking.{Asked}
 use Rattle.qd_words.specs.declared.ask.Command.{Command}
 use Rattle.qds_tools.specs.declared.program_end.ProgramEnd.{ProgramEnd}
 use Rattle.qds_tools.specs.declared.program_end.ProgramEnd.TheVariants.{Usage, Refused, Ran}
-use Rattle.qds_tools.specs.Commands.{setting_of, RunsBy, LeadsTo}
+use Rattle.qds_tools.specs.Commands.{setting_of, RunsBy}
 
 -- what is told outside: by the files, of standard input and of standard output
 pub record World : Type 0 where

@@ -1,6 +1,4 @@
-use Rattle.std.proofs.Common.{Some, None}
 use Rattle.qd_words.specs.Asking.{asked}
-use Rattle.qds_tools.specs.Program.{World}
 use Rattle.qds_tools.specs.declared.program_end.ProgramEnd.TheVariants.{Refused, Ran}
 use Rattle.qds_tools.proofs.DecidedLaws.{asked_ends, run_decided, refusal_decided, reported, reported_with}
 use Rattle.qds_tools.proofs.plain.plain_main.Goals as goal
