@@ -84,7 +84,7 @@ impl Entries {
     pub fn at_or_below(&self, index: u64) -> Option<Entry>
         ensures { result ≡ entry_at_or_below index self.now.entries }
     {
-        self.tree.at_or_below(index)
+        self.tree.at_or_below(index).copied()
     }
 
     /// Makes room for so many new entries. After want of memory there may be more room than before.

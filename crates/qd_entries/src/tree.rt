@@ -1,5 +1,5 @@
 //! A tree of entries, balanced by how many entries each side has.
-ghost use Rattle.std.specs.Prelude.{◌≡◌, ◌+◌, ◌*◌, ◌^◌, ◌<◌, ◌≤◌, ◌↔◌, [], ◌∷◌, ◌++◌, length, slice_get, IsTrue};
+ghost use Rattle.std.specs.Prelude.{◌≡◌, ◌+◌, ◌*◌, ◌^◌, ◌<◌, ◌≤◌, ◌↔◌, [], ◌∷◌, ◌++◌, length, slice_get, option_map, IsTrue};
 ghost use Rattle.qd_entries.specs.Nodes.{entries_of, entries_of_node, IsSized};
 ghost use Rattle.qd_entries.specs.Entries.{Falls, cells_at, entry_at_or_below, put_entry, without_index};
 ghost use Rattle.qd_entries.specs.Nodes.{TakesFirst};
@@ -121,9 +121,10 @@ impl Tree {
         }
     }
 
-    /// The entry with the greatest index at or below this one.
-    pub fn at_or_below(&self, index: u64) -> Option<Entry>
-        ensures { Falls self.now → result ≡ entry_at_or_below index self.now }
+    /// The entry with the greatest index at or below this one. It is lent, since a copy at each level would cost more than
+    /// the search.
+    pub fn at_or_below(&self, index: u64) -> Option<&Entry>
+        ensures { Falls self.now → option_map (λ e. e.now) result ≡ entry_at_or_below index self.now }
     {
         match &self.link {
             Link::Leaf => None,
@@ -134,7 +135,7 @@ impl Tree {
                 }
                 match node.before.at_or_below(index) {
                     Some(entry) => Some(entry),
-                    None => Some(node.entry),
+                    None => Some(&node.entry),
                 }
             }
         }

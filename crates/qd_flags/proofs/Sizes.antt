@@ -1,5 +1,5 @@
 -- How many entries are kept, and how many events held back, after one more event.
-use Rattle.std.proofs.Common.{◌≡◌, ◌≤◌, ◌+◌, ℕ, suc, Bool, true, false, List, [], ◌∷◌, ◌++◌, length, length-append, arith, nat_le, nat_lt, sym, subst}
+use Rattle.std.proofs.Common.{◌≤◌, ◌+◌, ℕ, suc, Bool, true, false, List, [], ◌∷◌, ◌++◌, length, length-append, arith, nat_le, nat_lt}
 use Rattle.std.specs.Prelude.{if◌then◌else◌, ◌==◌}
 use Rattle.qd_scheme.specs.declared.key.Event.{Event}
 use Rattle.qd_entries.specs.declared.Entry.{Entry}
