@@ -20,6 +20,7 @@ impl Model for Line {
 }
 
 impl Line {
+    /// No bytes yet; room for 4096.
     pub fn new() -> Line
         ensures { result ≡ [] }
     {
@@ -42,18 +43,21 @@ impl Line {
         true
     }
 
+    /// How many bytes it has.
     pub fn len(&self) -> usize
         ensures { result ≡ length self.now }
     {
         self.len
     }
 
+    /// Its bytes, in order.
     pub fn bytes(&self) -> &[u8]
         ensures { result.now ≡ self.now }
     {
         &self.bytes[..self.len]
     }
 
+    /// Takes all bytes out; the room stays.
     pub fn clear(&mut self)
         ensures { self.new ≡ [] }
     {

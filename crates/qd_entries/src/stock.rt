@@ -40,6 +40,7 @@ impl Stock {
         }
     }
 
+    /// How many nodes it can hold: those that are there, and those that are in use and may come back.
     pub fn room(&self) -> u64
         ensures room { result ≡ self.now.room }
         ensures few { self.now.room < 2 ^ 32 }
@@ -48,6 +49,7 @@ impl Stock {
         self.room
     }
 
+    /// How many nodes there are to take.
     pub fn spare(&self) -> u64
         ensures { result ≡ self.now.spare }
     {

@@ -17,6 +17,7 @@ pub struct Tree {
     link: Link,
 }
 
+/// No entry, or the node on top.
 #[cycle(tree)]
 #[derive(Drop)]
 pub enum Link {
@@ -89,6 +90,7 @@ impl Tree {
         }
     }
 
+    /// Whether there is no entry.
     pub fn is_empty(&self) -> bool
         ensures { IsTrue result ↔ (self.now ≡ []) }
     {

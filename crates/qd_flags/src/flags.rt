@@ -33,16 +33,22 @@ impl Model for Flags {
 }
 
 impl Flags {
+    /// A transaction goes on with later events.
     pub const TX_PENDING: u8 = 0x01;
 
+    /// What stands at the index is to be taken out.
     pub const REMOVE_EVENT: u8 = 0x02;
 
+    /// The first event of a snapshot.
     pub const SNAPSHOT_BEGIN: u8 = 0x04;
 
+    /// The last event of a snapshot, with all data sent.
     pub const SNAPSHOT_END: u8 = 0x08;
 
+    /// The last event of a snapshot, after which no more data comes.
     pub const SNAPSHOT_SNIP: u8 = 0x10;
 
+    /// Has no effect here.
     pub const SNAPSHOT_MODE: u8 = 0x40;
 
     // 0x20 and 0x80.

@@ -40,6 +40,7 @@ impl Config {
         }
     }
 
+    /// How many stripes each collector has.
     pub fn stripes(&self) -> u8
         ensures stripes { result ≡ self.now.stripes }
         ensures count { IsStripeCount result }
@@ -48,12 +49,14 @@ impl Config {
         self.stripes
     }
 
+    /// How many items of the stream may wait for an agent, in each stripe.
     pub fn cap(&self) -> u16
         ensures { result ≡ self.now.cap }
     {
         self.cap
     }
 
+    /// How many events of the history may be owed to an agent, in each stripe.
     pub fn hcap(&self) -> u16
         ensures { result ≡ self.now.hcap }
     {

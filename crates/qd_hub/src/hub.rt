@@ -14,14 +14,19 @@ use qd_stream::{StreamItem, StreamStripe};
 use qd_sub::{Op, Reply};
 use qd_ticker::TickerStripe;
 
+/// A call of the ticker: records are put and given.
 pub type TickerOp = Op<Record, Record>;
 
+/// A call of the stream: records and counts of lost ones are put and given.
 pub type StreamOp = Op<StreamItem, StreamItem>;
 
+/// A call of the history: events are put, and given with the number of the commit that they show.
 pub type HistoryOp = Op<Event, HistItem>;
 
+/// The ticker's reply.
 pub type TickerReply = Reply<Record>;
 
+/// The stream's reply.
 pub type StreamReply = Reply<StreamItem>;
 
 /// The three collectors, as one caller has them.

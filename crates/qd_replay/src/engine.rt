@@ -45,6 +45,7 @@ impl Model for Engine {
 }
 
 impl Engine {
+    /// Before the first item: no head, link 0, no group, nothing printed.
     pub fn new(alloc: Global) -> Engine
         ensures { result ≡ record { script = start; held = [] } }
     {

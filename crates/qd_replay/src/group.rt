@@ -63,6 +63,7 @@ impl OpenGroup {
         }
     }
 
+    /// Lets its lines go; the room stays.
     pub fn clear(&mut self)
         ensures { self.new ≡ no_group }
     {
@@ -73,6 +74,7 @@ impl OpenGroup {
         self.events.clear();
     }
 
+    /// Whether it has 4096 lines, after which it ends.
     pub fn is_full(&self) -> bool
         requires { size self.now ≤ 4096 }
         ensures { result ≡ is_full self.now }

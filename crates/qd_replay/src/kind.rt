@@ -15,6 +15,7 @@ pub enum Kind {
     Control,
 }
 
+/// What the line of an item is to the group.
 pub fn kind_of(item: &Item) -> Kind
     ensures { result ≡ kind_of item.now }
 {
@@ -27,6 +28,7 @@ pub fn kind_of(item: &Item) -> Kind
     }
 }
 
+/// Whether records under this head go to the ticker.
 pub fn is_putting(message: Option<Message>) -> bool
     ensures { result ≡ is_putting message }
 {
@@ -36,6 +38,7 @@ pub fn is_putting(message: Option<Message>) -> bool
     }
 }
 
+/// Whether records under this head go to the stream.
 pub fn is_streaming(message: Option<Message>) -> bool
     ensures { result ≡ is_streaming message }
 {
@@ -45,6 +48,7 @@ pub fn is_streaming(message: Option<Message>) -> bool
     }
 }
 
+/// Whether counts of lost records under this head go to the stream.
 pub fn is_losing(message: Option<Message>) -> bool
     ensures { result ≡ is_losing message }
 {
@@ -54,6 +58,7 @@ pub fn is_losing(message: Option<Message>) -> bool
     }
 }
 
+/// Whether events under this head go to the history.
 pub fn is_feeding(message: Option<Message>) -> bool
     ensures { result ≡ is_feeding message }
 {
@@ -63,6 +68,7 @@ pub fn is_feeding(message: Option<Message>) -> bool
     }
 }
 
+/// Whether subscriptions under this head have a limit: those of the history.
 pub fn is_limiting(message: Option<Message>) -> bool
     ensures { result ≡ is_limiting message }
 {
@@ -72,6 +78,7 @@ pub fn is_limiting(message: Option<Message>) -> bool
     }
 }
 
+/// Whether keys under this head are subscribed to, without a limit.
 pub fn is_adding(message: Option<Message>) -> bool
     ensures { result ≡ is_adding message }
 {
@@ -81,6 +88,7 @@ pub fn is_adding(message: Option<Message>) -> bool
     }
 }
 
+/// Whether subscriptions to keys under this head end.
 pub fn is_removing(message: Option<Message>) -> bool
     ensures { result ≡ is_removing message }
 {

@@ -162,6 +162,7 @@ fn fill_mark(link: u8, collector: Collector, line: &mut Line)
 }
 
 impl Output {
+    /// Nothing printed.
     pub fn new(alloc: Global) -> Output
         ensures { result ≡ [] }
     {

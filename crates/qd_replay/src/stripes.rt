@@ -67,6 +67,7 @@ pub fn items_of<T: Copy>(reply: Reply<T>) -> Option<Buffer<T>>
     }
 }
 
+/// The events of the history's reply.
 pub fn events_of(reply: HistoryReply) -> Option<Buffer<HistItem>>
     ensures { HasEvents reply result }
 {

@@ -334,6 +334,7 @@ fn push_order(orders: &mut Vec<PendQueue>, agent: u8, slot: u32, hold: Hold)
     }
 }
 
+/// Takes a slot out of an agent's order, where it stands there.
 pub fn drop_order(orders: &mut Vec<PendQueue>, agent: u8, slot: u32)
     requires agent { agent < vec_len orders.old }
     ensures { orders.new.items ≡ slice_set orders.old.items agent (with_less (order_at orders.old.items agent) slot) }
@@ -353,6 +354,7 @@ pub fn empty_orders(alloc: Global) -> Result<Vec<PendQueue>, AllocError>
     Ok(orders)
 }
 
+/// Makes room for slots up to this number in an agent's order. After want of memory it is as before.
 pub fn reserve_order(orders: &mut Vec<PendQueue>, agent: u8, slots: u32) -> Result<(), AllocError>
     requires { agent < vec_len orders.old }
     ensures ok { OnOk result (orders.new.items ≡ slice_set orders.old.items agent (with_room (order_at orders.old.items agent) slots)) }

@@ -118,6 +118,7 @@ fn symbol_told(at: usize, text: &[u8]) -> Result<Sym, Fault>
     }
 }
 
+/// The symbol of the part at `at`, and where the part behind it begins.
 #[tactic(auto, unfolding(qd_grammar::specs::Fields::symbol_at))]
 pub fn symbol_at(line: &[u8], at: usize) -> Result<(Sym, usize), Fault>
     requires short { length line.now ≤ 4096 }

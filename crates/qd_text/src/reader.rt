@@ -120,18 +120,21 @@ fn note(state: &mut State, item: &Item)
     }
 }
 
+/// Whether a line says nothing: an empty one, and one that begins with `#`.
 pub fn is_skipped(line: &[u8]) -> bool
     ensures { result ≡ is_skipped line.now }
 {
     line.is_empty() || line[0] == b'#'
 }
 
+/// Whether a line begins with `==`.
 pub fn is_control(line: &[u8]) -> bool
     ensures { result ≡ is_control line.now }
 {
     line.len() > 1 && line[0] == b'=' && line[1] == b'='
 }
 
+/// Whether a line begins with `=`, as descriptions and control lines do.
 pub fn is_description(line: &[u8]) -> bool
     ensures { result ≡ is_description line.now }
 {

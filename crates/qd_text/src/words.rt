@@ -101,6 +101,7 @@ fn way_of(word: &[u8]) -> Option<Way>
     }
 }
 
+/// The collector that the part at `at` names, and where the part behind it begins.
 #[tactic(auto, unfolding(qd_grammar::specs::Fields::word_at))]
 pub fn collector_at(line: &[u8], at: usize) -> Result<(Collector, usize), Fault>
     requires short { length line.now ≤ 4096 }
@@ -115,6 +116,7 @@ pub fn collector_at(line: &[u8], at: usize) -> Result<(Collector, usize), Fault>
     }
 }
 
+/// The way, UP or DOWN, that the part at `at` names, and where the part behind it begins.
 #[tactic(auto, unfolding(qd_grammar::specs::Fields::word_at))]
 pub fn way_at(line: &[u8], at: usize) -> Result<(Way, usize), Fault>
     requires short { length line.now ≤ 4096 }

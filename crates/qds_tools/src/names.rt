@@ -34,6 +34,7 @@ fn number_name(fault: DecFault) -> &'static str
     }
 }
 
+/// The name of a limit that was met.
 pub fn limit_name(limit: Limit) -> &'static str
     ensures { result.now ≡ limit_name limit }
 {
@@ -44,6 +45,7 @@ pub fn limit_name(limit: Limit) -> &'static str
     }
 }
 
+/// The name of the rule that a scheme breaks.
 pub fn scheme_name(why: SchemeWhy) -> &'static str
     ensures { result.now ≡ scheme_name why }
 {
