@@ -1,5 +1,5 @@
 -- What single acts do to what is known of an agent and a key.
-use Rattle.std.proofs.Common.{◌≡◌, ℕ, Bool, true, false, ◌&&◌, List, [], ◌∷◌, reverse, refl, sym, ◌∙◌, ap, Option, None}
+use Rattle.std.proofs.Common.{◌≡◌, ℕ, Bool, true, false, List, [], ◌∷◌, reverse, refl, sym, ◌∙◌, ap, Option, None}
 use Rattle.std.specs.Prelude.{if◌then◌else◌, is_some, nat_eq}
 use Rattle.std.proofs.lemmas.Bool.{and_parts, and_from, eqb-true, eq-eqb, and_left}
 use Rattle.std.proofs.lemmas.List.{reverse-append}

@@ -1,4 +1,6 @@
+pub mod TakeTest
 pub mod Rows
+pub mod AskingRows
 pub mod ActFacts
 pub mod Numbers
 pub mod Begun

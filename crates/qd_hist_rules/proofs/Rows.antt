@@ -1,32 +1,26 @@
 -- Logs, computed from the definitions alone.
-use Rattle.std.proofs.Common.{◌≡◌, ℕ, zero, suc, Bool, true, false, not, ◌&&◌, ◌||◌, ◌==◌, List, [], ◌∷◌, refl, Option, Some, None, length}
-use Rattle.std.specs.Prelude.{if◌then◌else◌, is_some, slice_get, nat_le, pos, take}
-use Rattle.std.specs.List.{list_any}
-use Rattle.std.specs.Cmp.Lexicographic.{pointwise}
+use Rattle.std.proofs.Common.{◌≡◌, ℕ, ◌^◌, ◌-◌, Bool, true, false, List, [], ◌∷◌, refl, Option, Some, None, inl, inr}
+use Rattle.std.specs.Prelude.{pos}
 use Rattle.qd_scheme.specs.declared.key.Key.{Key}
 use Rattle.qd_scheme.specs.declared.key.Event.{Event}
 use Rattle.qd_scheme.specs.declared.cells.Cells.{Cells}
 use Rattle.qd_scheme.specs.Keys.{key_eq}
 use Rattle.qd_buffer.specs.Filled.{Filled}
 use Rattle.qd_flags.specs.Bits.{is_pending, is_remove, is_begin, is_end, is_snip}
-use Rattle.qd_flags.specs.Shown.{Shown, shown, cut, Map}
 use Rattle.qd_gate.specs.declared.machine.Terms.{Terms}
 use Rattle.qd_gate.specs.Logs.{entry}
-use Rattle.qd_sub.specs.declared.op.Op.TheVariants.{Add, Put, Take}
-use Rattle.qd_sub.specs.Acts.{Gave}
+use Rattle.qd_sub.specs.declared.sub.Want.{Want}
+use Rattle.qd_sub.specs.declared.op.Op.TheVariants.{Add, Remove, Close, Put, Take, Watch}
 use Rattle.qd_sub.specs.Since.{since, last_place, by_since, begun_within}
 use Rattle.qd_sub.specs.Subscriptions.{limit_of, subscribed, agents, wanted, kept}
+use Rattle.qd_sub.specs.Holding.{held_keys, held_pairs, fresh}
 use Rattle.qd_sub.specs.Logs.{after, ends_of, after_entry, after_log}
 use Rattle.qd_hist_rules.specs.declared.item.HistItem.{HistItem}
-use Rattle.qd_hist_rules.specs.declared.reply.HistoryReply.TheVariants.{Done, Items}
-use Rattle.qd_hist_rules.specs.Moments.{HistMoment, events, given}
-use Rattle.qd_hist_rules.specs.Source.{Commit, commit, last}
-use Rattle.qd_hist_rules.specs.declared.floor.AgentFloor.{AgentFloor}
-use Rattle.qd_hist_rules.specs.Agent.{agent_floor, begin_moment, owed}
-use Rattle.qd_hist_rules.specs.Standing.{is_begun, is_ended, has_overflowed, due_keys}
-use Rattle.qd_hist_rules.specs.Lawful.{is_snapshot_item, same_cells}
-use Rattle.qd_hist_rules.specs.Takes.{after_gifts, turns, each_done}
-use Rattle.qd_hist_rules.specs.Legal.{HistoryEntry, terms_of, moment_of}
+use Rattle.qd_hist_rules.specs.declared.reply.HistoryReply.TheVariants.{Done, Items, Spent, NoMemory}
+use Rattle.qd_hist_rules.specs.Moments.{HistMoment}
+use Rattle.qd_hist_rules.specs.Source.{stock}
+use Rattle.qd_hist_rules.specs.Legal.{HistoryEntry, terms_of, moment_of, too_many_keys, too_many_subs, is_full, is_spent, refusal, IsLawful}
+use Rattle.qd_hist_rules.proofs.TakeTest.{take_ok}
 
 abbrev ibm : Key
 ibm = record { rec = 4; sym = 65 ∷ [] }
@@ -67,75 +61,6 @@ one is = taking 1 is
 
 abbrev snap : HistoryEntry
 snap = put (c 30 4 3 ∷ c 20 0 2 ∷ c 10 0 1 ∷ c 0 10 0 ∷ [])
-
--- maps are compared at the indexes below 64
-abbrev same_option : Option Cells → Option Cells → Bool
-same_option None o = not (is_some o)
-same_option (Some d) o = same_cells d o
-
-abbrev agree : ℕ → Map → Map → Bool
-agree zero m d = true
-agree (suc i) m d = same_option (m i) (d i) && agree i m d
-
-abbrev at_most : Option ℕ → ℕ → Bool
-at_most None m = true
-at_most (Some q) m = nat_le q m
-
-abbrev number_of : Option Commit → Option ℕ
-number_of None = None
-number_of (Some d) = Some d.number
-
-abbrev floor_is : Option AgentFloor → ℕ → Bool
-floor_is None m = false
-floor_is (Some f) m = f.index == m
-
-abbrev shows : Terms → ℕ → HistItem → HistMoment → ℕ → Shown → Option Commit → Bool
-shows t a i m number s None = false
-shows t a i m number s (Some d) =
-    agree 64 s.map (cut s.floor d.shown.map) && floor_is (agent_floor t.base a i.event.key m) s.floor
-    && not (list_any (λ j. not (at_most j.at number)) (given a i.event.key m))
-    && at_most (number_of (last t.base i.event.key (begin_moment a i.event.key (Gave a i.event.key i ∷ m)))) number
-
--- an item has the right number, or none
-abbrev number_fits : Terms → ℕ → HistItem → HistMoment → Option Shown → Option ℕ → Bool
-number_fits t a i m None None = true
-number_fits t a i m None (Some number) = false
-number_fits t a i m (Some s) None = false
-number_fits t a i m (Some s) (Some number) = shows t a i m number s (commit t.base i.event.key number m)
-
-abbrev same_number : Option ℕ → Option ℕ → Bool
-same_number None None = true
-same_number None (Some m) = false
-same_number (Some m) None = false
-same_number (Some m) (Some q) = m == q
-
-abbrev same_item : Option HistItem → HistItem → Bool
-same_item None i = false
-same_item (Some j) i =
-    i.event.index == j.event.index && i.event.flags == j.event.flags && same_cells i.event.cells (Some j.event.cells) && same_number j.at i.at
-
--- the test of LawfulItem
-abbrev item_ok : Terms → ℕ → HistItem → HistMoment → Bool
-item_ok t a i m =
-    number_fits t a i m (shown (events (given a i.event.key (Gave a i.event.key i ∷ m)))) i.at
-    && (not (is_ended t a i.event.key m) || is_begin i.event || same_item (slice_get (owed t.base a i.event.key m) 0) i)
-    && is_some (agent_floor t.base a i.event.key m) && (is_begun t a i.event.key m || is_begin i.event)
-    && (not (is_begin i.event) || not (is_begun t a i.event.key m) || has_overflowed t a i.event.key m)
-    && ((not (is_begin i.event) && is_ended t a i.event.key m) || is_snapshot_item t.base a i.event.key i m)
-
-abbrev items_ok : Terms → ℕ → List HistItem → HistMoment → Bool
-items_ok t a [] m = true
-items_ok t a (i ∷ is) m = if item_ok t a i m then items_ok t a is (Gave a i.event.key i ∷ m) else false
-
-abbrev no_keys : List Key → Bool
-no_keys [] = true
-no_keys (k ∷ ks) = false
-
--- the test of LawfulTake
-abbrev take_ok : Terms → ℕ → ℕ → List HistItem → HistMoment → Bool
-take_ok t a most is m =
-    items_ok t a is m && nat_le (length is) most && (length is == most || no_keys (due_keys t a (after_gifts a is m)))
-    && pointwise key_eq (turns is) (take (length (turns is)) (due_keys t a m)) && each_done t a is m
 
 -- after the log, this answer to a Take of at most so many items is lawful
 abbrev lawful : ℕ → List HistoryEntry → ℕ → List HistItem → Bool
@@ -320,6 +245,34 @@ a_sweep_5 : lawful 1024 (add 0 ∷ snap ∷ one (g 30 4 3 n ∷ []) ∷ put (c 3
 unfolding moment_of after_log after_entry after ends_of by_since begun_within since last_place subscribed limit_of kept wanted agents key_eq is_pending is_remove is_begin is_end is_snip
 a_sweep_5 = refl
 
+-- an item of a share has the share's cells
+other_cells : lawful 1024 (add 15 ∷ snap ∷ one (g 30 4 3 n ∷ []) ∷ put (c 30 1 4 ∷ c 20 0 5 ∷ []) ∷ []) 1 (g 30 1 9 n ∷ []) ≡ false
+unfolding moment_of after_log after_entry after ends_of by_since begun_within since last_place subscribed limit_of kept wanted agents key_eq is_pending is_remove is_begin is_end is_snip
+other_cells = refl
+
+-- a marker has as many cells as the BEGIN, whatever came after it
+cells_of_the_begin : lawful 1024 (add 15 ∷ snap ∷ put (record { key = ibm; index = 30; flags = 0; cells = pos 4 ∷ [] } ∷ []) ∷ []) 10 (record { event = record { key = ibm; index = 30; flags = 4; cells = pos 4 ∷ [] }; at = n } ∷ g 20 0 2 n ∷ g 15 10 0 (at 2) ∷ []) ≡ true
+unfolding moment_of after_log after_entry after ends_of by_since begun_within since last_place subscribed limit_of kept wanted agents key_eq is_pending is_remove is_begin is_end is_snip
+cells_of_the_begin = refl
+
+-- a snapshot that goes on through a possible overflow, or begins anew; the next item ends the choice
+an_unsettled_pair_goes_on : lawful 1 (add 15 ∷ snap ∷ one (g 30 4 3 n ∷ []) ∷ put (c 30 1 4 ∷ c 20 0 5 ∷ []) ∷ []) 1 (g 20 0 2 n ∷ []) ≡ true
+unfolding moment_of after_log after_entry after ends_of by_since begun_within since last_place subscribed limit_of kept wanted agents key_eq is_pending is_remove is_begin is_end is_snip
+an_unsettled_pair_goes_on = refl
+
+an_unsettled_pair_begins_anew : lawful 1 (add 15 ∷ snap ∷ one (g 30 4 3 n ∷ []) ∷ put (c 30 1 4 ∷ c 20 0 5 ∷ []) ∷ []) 1 (g 30 4 4 n ∷ []) ≡ true
+unfolding moment_of after_log after_entry after ends_of by_since begun_within since last_place subscribed limit_of kept wanted agents key_eq is_pending is_remove is_begin is_end is_snip
+an_unsettled_pair_begins_anew = refl
+
+an_overflow_is_over : lawful 1 (add 15 ∷ snap ∷ one (g 30 4 3 n ∷ []) ∷ put (c 30 1 4 ∷ c 20 0 5 ∷ []) ∷ one (g 20 0 2 n ∷ []) ∷ []) 1 (g 30 4 4 n ∷ []) ≡ false
+unfolding moment_of after_log after_entry after ends_of by_since begun_within since last_place subscribed limit_of kept wanted agents key_eq is_pending is_remove is_begin is_end is_snip
+an_overflow_is_over = refl
+
+-- a commit of which nothing is for the agent is no overflow
+an_empty_share_overflows_nothing : lawful 1 (add 15 ∷ snap ∷ one (g 30 4 3 n ∷ []) ∷ put (c 30 1 4 ∷ c 20 0 5 ∷ []) ∷ one (g 20 0 2 n ∷ []) ∷ put (c 10 0 9 ∷ []) ∷ []) 1 (g 30 4 4 n ∷ []) ≡ false
+unfolding moment_of after_log after_entry after ends_of by_since begun_within since last_place subscribed limit_of kept wanted agents key_eq is_pending is_remove is_begin is_end is_snip
+an_empty_share_overflows_nothing = refl
+
 -- two keys
 abbrev abc : Key
 abc = record { rec = 4; sym = 66 ∷ [] }
@@ -362,3 +315,69 @@ a_key_that_filled_a_take_comes_again = refl
 a_key_that_is_served_in_part : lawful 1024 (both ([])) 3 (g 30 4 3 n ∷ g 0 10 0 (at 1) ∷ h 30 4 5 n ∷ []) ≡ true
 unfolding moment_of after_log after_entry after ends_of by_since begun_within since last_place subscribed limit_of kept wanted agents key_eq is_pending is_remove is_begin is_end is_snip
 a_key_that_is_served_in_part = refl
+
+-- a pair is not settled while a possible overflow came after its last item, though it is ended; so the next overflow is not sure
+an_overflow_that_is_not_sure : lawful 1 (both (taking 3 (g 30 4 3 n ∷ g 0 10 0 (at 1) ∷ h 30 4 5 n ∷ []) ∷ put (c 30 1 4 ∷ c 20 0 6 ∷ []) ∷ one (h 0 10 0 (at 2) ∷ []) ∷ put (c 30 0 7 ∷ []) ∷ [])) 1 (g 30 1 4 n ∷ []) ≡ true
+unfolding moment_of after_log after_entry after ends_of by_since begun_within since last_place subscribed limit_of kept wanted agents key_eq is_pending is_remove is_begin is_end is_snip
+an_overflow_that_is_not_sure = refl
+
+an_overflow_that_is_possible : lawful 1 (both (taking 3 (g 30 4 3 n ∷ g 0 10 0 (at 1) ∷ h 30 4 5 n ∷ []) ∷ put (c 30 1 4 ∷ c 20 0 6 ∷ []) ∷ one (h 0 10 0 (at 2) ∷ []) ∷ put (c 30 0 7 ∷ []) ∷ [])) 1 (g 30 4 7 n ∷ []) ≡ true
+unfolding moment_of after_log after_entry after ends_of by_since begun_within since last_place subscribed limit_of kept wanted agents key_eq is_pending is_remove is_begin is_end is_snip
+an_overflow_that_is_possible = refl
+
+-- an agent is behind on all its keys together
+an_overflow_by_another_key : lawful 3 (both (ten (g 30 4 3 n ∷ g 0 10 0 (at 1) ∷ h 30 4 5 n ∷ h 0 10 0 (at 2) ∷ []) ∷ put (c 30 1 4 ∷ c 20 0 6 ∷ []) ∷ put (d 30 1 7 ∷ d 20 0 8 ∷ []) ∷ [])) 10 (g 30 1 4 n ∷ g 20 0 6 (at 3) ∷ h 30 4 7 n ∷ h 20 0 8 n ∷ h 0 10 0 (at 4) ∷ []) ≡ true
+unfolding moment_of after_log after_entry after ends_of by_since begun_within since last_place subscribed limit_of kept wanted agents key_eq is_pending is_remove is_begin is_end is_snip
+an_overflow_by_another_key = refl
+
+-- numbers go on from the base
+numbered_from_the_base : take_ok (terms_of 1024 7) 0 10 (g 0 14 0 (at 8) ∷ []) (moment_of (add 0 ∷ put (c 0 14 0 ∷ []) ∷ [])) ≡ true
+unfolding moment_of after_log after_entry after ends_of by_since begun_within since last_place subscribed limit_of kept wanted agents key_eq is_pending is_remove is_begin is_end is_snip
+numbered_from_the_base = refl
+
+-- what is kept: the indexes at or above the floor, and the events that are held back
+three_kept_one_held_back : stock 0 (moment_of (add 15 ∷ snap ∷ put (c 30 1 4 ∷ []) ∷ [])) ≡ 4
+unfolding stock moment_of after_log after_entry after by_since begun_within since subscribed limit_of kept wanted agents key_eq is_pending is_remove is_begin is_end is_snip
+three_kept_one_held_back = refl
+
+nothing_kept_below_the_floor : stock 0 (moment_of (add 5 ∷ put (c 30 4 3 ∷ c 20 8 2 ∷ []) ∷ put (c 10 0 1 ∷ []) ∷ [])) ≡ 2
+unfolding stock moment_of after_log after_entry after by_since begun_within since subscribed limit_of kept wanted agents key_eq is_pending is_remove is_begin is_end is_snip
+nothing_kept_below_the_floor = refl
+
+-- numbers end at 2^63
+the_last_number : refusal (2 ^ 63 - 1) [] (Put (some (c 0 14 0 ∷ []))) ≡ None
+unfolding refusal is_full is_spent stock by_since begun_within wanted agents
+the_last_number = refl
+
+no_number_is_left : refusal (2 ^ 63) [] (Put (some (c 0 14 0 ∷ []))) ≡ Some Spent
+unfolding refusal is_full is_spent stock by_since begun_within wanted agents
+no_number_is_left = refl
+
+-- only an Add and a Put may want memory
+a_put_may_want_memory : IsLawful (terms_of 0 0) [] (Put (some (c 0 14 0 ∷ []))) NoMemory
+unfolding IsLawful refusal is_full is_spent stock by_since begun_within wanted agents
+a_put_may_want_memory = inr (tt, refl)
+
+an_add_may_want_memory : IsLawful (terms_of 0 0) [] (Add 0 (some (record { key = ibm; limit = 0 } ∷ []))) NoMemory
+unfolding IsLawful refusal too_many_keys too_many_subs held_keys held_pairs fresh by_since begun_within key_eq
+an_add_may_want_memory = inr (tt, refl)
+
+a_remove_wants_none : (t : Terms) (m : HistMoment) (a : ℕ) (keys : Filled Key) → IsLawful t m (Remove a keys) NoMemory → ⊥
+unfolding IsLawful refusal
+a_remove_wants_none t m a keys (inl h) = cc h
+a_remove_wants_none t m a keys (inr h) = h.0
+
+a_close_wants_none : (t : Terms) (m : HistMoment) (a : ℕ) → IsLawful t m (Close a) NoMemory → ⊥
+unfolding IsLawful refusal
+a_close_wants_none t m a (inl h) = cc h
+a_close_wants_none t m a (inr h) = h.0
+
+a_take_wants_none : (t : Terms) (m : HistMoment) (a most : ℕ) (out : Filled HistItem) → IsLawful t m (Take a most out) NoMemory → ⊥
+unfolding IsLawful refusal
+a_take_wants_none t m a most out (inl h) = cc h.1
+a_take_wants_none t m a most out (inr h) = h.0
+
+a_watch_wants_none : (t : Terms) (m : HistMoment) (w most : ℕ) (out : Filled Want) → IsLawful t m (Watch w most out) NoMemory → ⊥
+unfolding IsLawful refusal
+a_watch_wants_none t m w most out (inl h) = cc h
+a_watch_wants_none t m w most out (inr h) = h.0

@@ -4,6 +4,7 @@ pub mod OwedLaws
 pub mod OutboxLaws
 pub mod KeyedLaws
 pub mod Rows
+pub mod AskingRows
 pub mod BoxLaws
 pub mod WalkLaws
 pub mod ReadyLaws

@@ -10,3 +10,4 @@ mod SoundLaws
 mod WayLaws
 mod StepLaws
 mod Rows
+mod AskingRows
