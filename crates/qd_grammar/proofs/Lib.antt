@@ -17,3 +17,4 @@ pub mod OnlyItems
 pub mod CanonicalLaws
 pub mod Three
 pub mod Rows
+pub mod FaultRows

@@ -29,14 +29,14 @@ use Rattle.qd_decimal.specs.Texts.{dec_text, magnitude_text}
 use Rattle.qd_grammar.specs.Canonical.{canonical, joined}
 
 -- the built-in scheme
-abbrev builtin : List RecordDef
+abbrev pub builtin : List RecordDef
 builtin =
     record { name = codes "Quote"; hist = false; fields = record { name = codes "BidPrice"; kind = Dec 4 } ∷ record { name = codes "BidSize"; kind = Int } ∷ record { name = codes "AskPrice"; kind = Dec 4 } ∷ record { name = codes "AskSize"; kind = Int } ∷ [] } ∷
     record { name = codes "Trade"; hist = false; fields = record { name = codes "Price"; kind = Dec 4 } ∷ record { name = codes "Size"; kind = Int } ∷ record { name = codes "Volume"; kind = Int } ∷ [] } ∷
     record { name = codes "Candle"; hist = true; fields = record { name = codes "Open"; kind = Dec 4 } ∷ record { name = codes "High"; kind = Dec 4 } ∷ record { name = codes "Low"; kind = Dec 4 } ∷ record { name = codes "Close"; kind = Dec 4 } ∷ record { name = codes "Volume"; kind = Int } ∷ [] } ∷
     record { name = codes "Order"; hist = true; fields = record { name = codes "Price"; kind = Dec 4 } ∷ record { name = codes "Size"; kind = Int } ∷ record { name = codes "Side"; kind = Int } ∷ [] } ∷ []
 
-abbrev under : Message → State
+abbrev pub under : Message → State
 under message = record { started = true; message = Some message; time = 0 }
 
 read_zeros : dec_of 4 (codes "1.50000") ≡ Ok (pos 15000)
@@ -127,10 +127,10 @@ canonical_hist : canonical builtin (Ev (record { key = record { rec = 2; sym = c
 unfolding canonical digits dec_text magnitude_text
 canonical_hist = refl
 
-abbrev at_time : ℕ → State
+abbrev pub at_time : ℕ → State
 at_time ms = record { started = true; message = None; time = ms }
 
-abbrev said : Mode → State → List (List ℕ) → Result Item Fault
+abbrev pub said : Mode → State → List (List ℕ) → Result Item Fault
 said mode s parts = item_of mode s builtin (joined parts)
 
 -- each control word with what stands behind it
