@@ -49,44 +49,44 @@ put rs = entry 0 (Put (some rs)) Done
 abbrev take : ℕ → ℕ → List Record → TickerEntry
 take agent most rs = entry 0 (Take agent most (some [])) (Items (some rs))
 
-abbrev row_4 : List TickerEntry
-row_4 = add 0 (a ∷ b ∷ c ∷ []) ∷ put (quote a 1 ∷ quote b 2 ∷ quote c 3 ∷ []) ∷ take 0 2 (quote a 1 ∷ quote b 2 ∷ []) ∷ put (quote a 4 ∷ []) ∷ []
+abbrev in_turn : List TickerEntry
+in_turn = add 0 (a ∷ b ∷ c ∷ []) ∷ put (quote a 1 ∷ quote b 2 ∷ quote c 3 ∷ []) ∷ take 0 2 (quote a 1 ∷ quote b 2 ∷ []) ∷ put (quote a 4 ∷ []) ∷ []
 
-row_4-second : taken 0 2 (moment_of row_4) ≡ quote c 3 ∷ quote a 4 ∷ []
+in_turn-second : taken 0 2 (moment_of in_turn) ≡ quote c 3 ∷ quote a 4 ∷ []
 unfolding taken moment_of after_log after_entry after queue_of by_since begun_within since pending subscribed limit_of kept wanted agents last_place last_record key_eq
-row_4-second = refl
+in_turn-second = refl
 
-abbrev row_5 : List TickerEntry
-row_5 = add 0 (a ∷ b ∷ []) ∷ put (quote a 1 ∷ quote b 2 ∷ quote a 3 ∷ []) ∷ []
+abbrev conflated : List TickerEntry
+conflated = add 0 (a ∷ b ∷ []) ∷ put (quote a 1 ∷ quote b 2 ∷ quote a 3 ∷ []) ∷ []
 
-row_5-first : taken 0 10 (moment_of row_5) ≡ quote a 3 ∷ quote b 2 ∷ []
+conflated-first : taken 0 10 (moment_of conflated) ≡ quote a 3 ∷ quote b 2 ∷ []
 unfolding taken moment_of after_log after_entry after queue_of by_since begun_within since pending subscribed limit_of kept wanted agents last_place last_record key_eq
-row_5-first = refl
+conflated-first = refl
 
-row_2-first : taken 0 10 (moment_of (put (quote a 1 ∷ []) ∷ add 0 (a ∷ []) ∷ [])) ≡ []
+unwanted-first : taken 0 10 (moment_of (put (quote a 1 ∷ []) ∷ add 0 (a ∷ []) ∷ [])) ≡ []
 unfolding taken moment_of after_log after_entry after queue_of by_since begun_within since pending subscribed limit_of kept wanted agents last_place last_record key_eq
-row_2-first = refl
+unwanted-first = refl
 
 -- a second agent finds the last record pending, once
-abbrev row_3 : List TickerEntry
-row_3 = add 0 (a ∷ []) ∷ put (quote a 1 ∷ []) ∷ add 1 (a ∷ []) ∷ []
+abbrev joined_later : List TickerEntry
+joined_later = add 0 (a ∷ []) ∷ put (quote a 1 ∷ []) ∷ add 1 (a ∷ []) ∷ []
 
-row_3-first : taken 1 10 (moment_of row_3) ≡ quote a 1 ∷ []
+joined_later-first : taken 1 10 (moment_of joined_later) ≡ quote a 1 ∷ []
 unfolding taken moment_of after_log after_entry after queue_of by_since begun_within since pending subscribed limit_of kept wanted agents last_place last_record key_eq
-row_3-first = refl
+joined_later-first = refl
 
-row_3-second : taken 1 10 (moment_of (add 0 (a ∷ []) ∷ put (quote a 1 ∷ []) ∷ add 1 (a ∷ []) ∷ take 1 10 (quote a 1 ∷ []) ∷ [])) ≡ []
+joined_later-second : taken 1 10 (moment_of (add 0 (a ∷ []) ∷ put (quote a 1 ∷ []) ∷ add 1 (a ∷ []) ∷ take 1 10 (quote a 1 ∷ []) ∷ [])) ≡ []
 unfolding taken moment_of after_log after_entry after queue_of by_since begun_within since pending subscribed limit_of kept wanted agents last_place last_record key_eq
-row_3-second = refl
+joined_later-second = refl
 
-row_3-again : taken 0 10 (moment_of (add 0 (a ∷ []) ∷ put (quote a 1 ∷ []) ∷ remove 0 (a ∷ []) ∷ add 0 (a ∷ []) ∷ [])) ≡ []
+wanted_again : taken 0 10 (moment_of (add 0 (a ∷ []) ∷ put (quote a 1 ∷ []) ∷ remove 0 (a ∷ []) ∷ add 0 (a ∷ []) ∷ [])) ≡ []
 unfolding taken moment_of after_log after_entry after queue_of by_since begun_within since pending subscribed limit_of kept wanted agents last_place last_record key_eq ends_of
-row_3-again = refl
+wanted_again = refl
 
--- the whole log of a row is legal, by computation
-row_4-legal : IsLegal no_terms row_4
+-- a whole log is legal, by computation
+in_turn-legal : IsLegal no_terms in_turn
 unfolding Follows IsLawful reply_to too_many_keys too_many_subs held_keys held_pairs held watchers known fresh taken moment_of after_log after_entry after queue_of by_since begun_within since pending subscribed limit_of kept wanted agents last_place last_record key_eq
-row_4-legal = (inl refl, (inl refl, (inl refl, (inl refl, tt))))
+in_turn-legal = (inl refl, (inl refl, (inl refl, (inl refl, tt))))
 
 -- a Watch in a log, and what it is told after a Close
 abbrev watch : List Want → TickerEntry
