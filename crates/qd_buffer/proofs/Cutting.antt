@@ -1,5 +1,5 @@
 -- Counting and filling the parts of a cut, item by item. `part x` is the part that x belongs to.
-use Rattle.std.proofs.Common.{◌≡◌, ◌≢◌, ◌⊎◌, inl, inr, ℕ, zero, suc, ◌+◌, ◌≤◌, ◌<◌, Bool, true, false, cond, nat_eq, List, [], ◌∷◌, ◌++◌, length, take, drop, map, filter, get_or, set, Option, Some, None, refl, sym, ap, ◌∙◌, subst, arith, eq-eqb, append-nil, le_of_eq, eqb-true, not-suc-le-zero, le_of_suc-le-suc, length-append, length-set, length-take, take-append-drop}
+use Rattle.std.proofs.Common.{◌≡◌, ◌≢◌, ◌⊎◌, inl, inr, ℕ, zero, suc, ◌+◌, ◌≤◌, ◌<◌, Bool, true, false, cond, nat_eq, List, [], ◌∷◌, ◌++◌, length, take, drop, map, filter, get_or, set, Option, Some, None, refl, sym, ap, ◌∙◌, subst, arith, eq-eqb, append-nil, eqb-true, not-suc-le-zero, le_of_suc-le-suc, length-append, length-set, length-take, take-append-drop}
 use Rattle.std.proofs.Math.Nat.{mod-one}
 use Rattle.std.specs.Prelude.{sum, slice_get, option_map}
 use Rattle.std.proofs.lemmas.List.Elements.{filter_more, filter-append}
@@ -102,14 +102,14 @@ IsFilling-more {T} key_of n items k parts x to filling h e at below =
     let s : ℕ = stripe_of (key_of x) n in
     let new : Filled T = with_items to (to.items ++ x ∷ []) in
     let part : T → ℕ = λ item. stripe_of (key_of item) n in
-    let each : (i : ℕ) (p : Filled T) → slice_get (set parts s new) i ≡ Some p → (p.items ≡ filter (λ item. nat_eq (part item) i) (take (k + 1) items)) × (length (filter (λ item. nat_eq (part item) i) items) ≤ p.room) =
+    let each : (i : ℕ) (p : Filled T) → slice_get (set parts s new) i ≡ Some p → (p.items ≡ filter (λ item. nat_eq (part item) i) (take (k + 1) items)) × (p.room ≡ length (filter (λ item. nat_eq (part item) i) items)) =
     λ i p f.
-    let go : ((i ≡ s) ⊎ (i ≢ s)) → (p.items ≡ filter (λ item. nat_eq (part item) i) (take (k + 1) items)) × (length (filter (λ item. nat_eq (part item) i) items) ≤ p.room) =
+    let go : ((i ≡ s) ⊎ (i ≢ s)) → (p.items ≡ filter (λ item. nat_eq (part item) i) (take (k + 1) items)) × (p.room ≡ length (filter (λ item. nat_eq (part item) i) items)) =
     elim [
       | inl q ↦
           let g : new ≡ p = some_same new p (sym (get-set_same parts s new (rw filling.count below)) ∙ ap (λ j. slice_get (set parts s new) j) (sym q) ∙ f) in
-          subst (λ r. (r.items ≡ filter (λ item. nat_eq (part item) i) (take (k + 1) items)) × (length (filter (λ item. nat_eq (part item) i) items) ≤ r.room)) g (
-          subst (λ j. (to.items ++ x ∷ [] ≡ filter (λ item. nat_eq (part item) j) (take (k + 1) items)) × (length (filter (λ item. nat_eq (part item) j) items) ≤ to.room)) (sym q) (
+          subst (λ r. (r.items ≡ filter (λ item. nat_eq (part item) i) (take (k + 1) items)) × (r.room ≡ length (filter (λ item. nat_eq (part item) i) items))) g (
+          subst (λ j. (to.items ++ x ∷ [] ≡ filter (λ item. nat_eq (part item) j) (take (k + 1) items)) × (to.room ≡ length (filter (λ item. nat_eq (part item) j) items))) (sym q) (
             ap (λ ys. ys ++ x ∷ []) (filling.each s to at).0 ∙ sym (next_in part items k x h e),
             (filling.each s to at).1,
           ))
@@ -136,15 +136,15 @@ IsFilling-at key_of n items k parts x s to new filling h e q below f =
 pub IsFilling-start : {T : Type 0} (key_of : T → Key) (n : ℕ) (items : List T) (counts : List ℕ) (parts : List (Filled T)) → n ≤ length counts → ((i : ℕ) → i < n → get_or counts i 0 ≡ length (of_stripe key_of n i items)) → parts ≡ map (λ room. record { items = []; room = room }) (take n counts) → IsFilling key_of n items 0 parts
 IsFilling-start {T} key_of n items counts parts few so e =
     let empty : ℕ → Filled T = λ room. record { items = []; room = room } in
-    let each : (i : ℕ) (p : Filled T) → slice_get parts i ≡ Some p → (p.items ≡ of_stripe key_of n i (take 0 items)) × (length (of_stripe key_of n i items) ≤ p.room) =
+    let each : (i : ℕ) (p : Filled T) → slice_get parts i ≡ Some p → (p.items ≡ of_stripe key_of n i (take 0 items)) × (p.room ≡ length (of_stripe key_of n i items)) =
     λ i p f.
-    let go : (o : Option ℕ) → slice_get (take n counts) i ≡ o → option_map empty o ≡ Some p → (p.items ≡ of_stripe key_of n i (take 0 items)) × (length (of_stripe key_of n i items) ≤ p.room) =
+    let go : (o : Option ℕ) → slice_get (take n counts) i ≡ o → option_map empty o ≡ Some p → (p.items ≡ of_stripe key_of n i (take 0 items)) × (p.room ≡ length (of_stripe key_of n i items)) =
     elim [
       | None ↦ λ g h. cc
       | Some c ↦ λ g h.
           let below : i < n = omega (arith, slice_get_within (take n counts) i c g, length-take n counts) in
           let r : get_or counts i 0 ≡ c = sym (get_or-take n counts i 0 below) ∙ get_or_from_slice_get (take n counts) i c 0 g in
-          subst (λ p. (p.items ≡ of_stripe key_of n i (take 0 items)) × (length (of_stripe key_of n i items) ≤ p.room)) (some_same (empty c) p h) (refl, le_of_eq (sym (so i below) ∙ r))
+          subst (λ p. (p.items ≡ of_stripe key_of n i (take 0 items)) × (p.room ≡ length (of_stripe key_of n i items))) (some_same (empty c) p h) (refl, sym r ∙ so i below)
     ] in
     go (slice_get (take n counts) i) refl (sym (slice_get-map empty (take n counts) i) ∙ ap (λ ps. slice_get ps i) (sym e) ∙ f) in
     record { count = ap length e ∙ length-map (take n counts) empty ∙ omega (arith, length-take n counts, few); each = each }
@@ -154,9 +154,13 @@ all_pass p h [] = refl
 all_pass p h (x ∷ xs) = rw (h x) (ap (λ ys. x ∷ ys) (all_pass p h xs))
 
 -- one part with all items
-one_part : {T : Type 0} (key_of : T → Key) (items : List T) (room i : ℕ) (p : Filled T) → slice_get (record { items = items; room = room } ∷ []) i ≡ Some p → p.items ≡ of_stripe key_of 1 i items
-one_part key_of items room zero p f = sym (ap (λ q. q.items) (some_same (record { items = items; room = room }) p f)) ∙ sym (all_pass (λ item. nat_eq (stripe_of (key_of item) 1) 0) (λ x. eq-eqb (stripe_of (key_of x) 1) 0 (mod-one ((key_of x).rec + sum (key_of x).sym))) items)
-one_part key_of items room (suc i) p f = cc
+one_part : {T : Type 0} (key_of : T → Key) (items : List T) (i : ℕ) (p : Filled T) → slice_get (record { items = items; room = length items } ∷ []) i ≡ Some p → (p.items ≡ of_stripe key_of 1 i items) × (p.room ≡ length p.items)
+one_part {T} key_of items zero p f =
+    let same : record { items = items; room = length items } ≡ p = some_same (record { items = items; room = length items }) p f in (
+      sym (ap (λ (q : Filled T). q.items) same) ∙ sym (all_pass (λ item. nat_eq (stripe_of (key_of item) 1) 0) (λ x. eq-eqb (stripe_of (key_of x) 1) 0 (mod-one ((key_of x).rec + sum (key_of x).sym))) items),
+      sym (ap (λ (q : Filled T). q.room) same) ∙ ap (λ (q : Filled T). length q.items) same,
+    )
+one_part key_of items (suc i) p f = cc
 
-pub AreStripes-one : {T : Type 0} (key_of : T → Key) (items : List T) (parts : List (Filled T)) (room : ℕ) → parts ≡ record { items = items; room = room } ∷ [] → AreStripes key_of 1 items parts
-AreStripes-one key_of items parts room e = record { count = ap length e; each = λ i p f. one_part key_of items room i p (sym (ap (λ ps. slice_get ps i) e) ∙ f) }
+pub AreStripes-one : {T : Type 0} (key_of : T → Key) (items : List T) (parts : List (Filled T)) → parts ≡ record { items = items; room = length items } ∷ [] → AreStripes key_of 1 items parts
+AreStripes-one key_of items parts e = record { count = ap length e; each = λ i p f. one_part key_of items i p (sym (ap (λ ps. slice_get ps i) e) ∙ f) }

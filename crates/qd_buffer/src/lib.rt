@@ -5,8 +5,6 @@
 
 mod buffer;
 mod split;
-#[cfg(test)]
-mod tests;
 
 pub use buffer::Buffer;
 pub use split::split_by_stripe;

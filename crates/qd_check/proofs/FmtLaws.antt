@@ -13,7 +13,8 @@ use Rattle.qd_items.specs.Judging.{Numbered, items_of, stop_of}
 use Rattle.qd_items.specs.Judging.Stop.{Open}
 use Rattle.qd_items.specs.Standing.{Kept, Past, IsRead, nothing, opening}
 use Rattle.qd_items.proofs.Counts.{none_behind_end}
-use Rattle.qd_items.proofs.StepLaws.{opening_read}
+use Rattle.qd_items.specs.Steps.{Steps}
+use Rattle.qd_items.proofs.StepLaws.{comes_next, none_yet, opening_read, same_faults, went_on}
 use Rattle.qd_outside.specs.Buffering.{Prints}
 use Rattle.qd_outside.specs.Writing.{Gained, IsCutShort}
 use Rattle.qd_outside.proofs.Streams.{Gained-none, Gained-more}
@@ -80,6 +81,55 @@ print_broke defs o w k new held item left now reads after m p told c =
           ∙ held_more (fmt_text defs p.past.lines) p.part held c.rest c.part (line_of defs item) p.whole c.whole;
       rose = rw p.same at c.rose;
     }
+
+-- a step that gives an item or the end tells what a call that goes on to it tells
+pub told_step : (defs : List RecordDef) (k l new : Kept) (was left : Option (List ℕ)) (before reads : ℕ) (next : NextItem) → l ≡ k → new.mode ≡ l.mode → Steps defs l (Some next) new was left before reads
+    → (start : Option (List ℕ)) (p : Past) → IsRead defs start k p was → ComesNext defs start p next new left before reads
+told_step defs k l new was left before reads next e m s = λ start p r. comes_next defs start p l new was left before reads next m (none_yet defs start p l was (subst (λ (x : Kept). IsRead defs start x p was) (sym e) r)) s
+
+-- nothing is printed of a step that gives no item
+pub print_passed : (defs : List RecordDef) (o w : Outside) (k new : Kept) (held : List ℕ) (left : Option (List ℕ)) (reads : ℕ) → new.mode ≡ File → IsPrinting defs o k held w → Steps defs k None new w.left left w.reads reads
+    → IsPrinting defs o new held (record { left = left; reads = reads; written = w.written; writes = w.writes })
+print_passed defs o w k new held left reads m p s =
+    let n = went_on defs o.left p.past k new w.left left w.reads reads (none_yet defs o.left p.past k w.left p.read) s in
+    record {
+      past = n.past;
+      read = n.read;
+      reads = same_faults defs k new w.left left w.reads reads s ∙ p.reads;
+      part = p.part;
+      gained = p.gained;
+      whole = ap (lines_of defs) (subst (λ (x : Mode). items_of x defs n.past.lines ≡ items_of x defs p.past.lines) m n.same) ∙ p.whole;
+      same = p.same;
+    }
+
+-- what is held back is written
+pub print_let_go : (defs : List RecordDef) (o w : Outside) (k : Kept) (held more : List ℕ) (now : Option (List ℕ)) (after : ℕ) → IsPrinting defs o k held w → Prints true [] held more w.written now w.writes after
+    → IsPrinting defs o k more (record { left = w.left; reads = w.reads; written = now; writes = after })
+print_let_go defs o w k held more now after p (piece, e, c) = record {
+  past = p.past;
+  read = p.read;
+  reads = p.reads;
+  part = p.part ++ piece;
+  gained = Gained-more o.written w.written now p.part piece p.gained c.gained;
+  whole = sym (append-nil (fmt_text defs p.past.lines)) ∙ held_more (fmt_text defs p.past.lines) p.part held more piece [] p.whole e;
+  same = c.same ∙ p.same;
+}
+
+-- or a write of it failed
+pub print_let_short : (defs : List RecordDef) (o w : Outside) (k : Kept) (held : List ℕ) (now : Option (List ℕ)) (after : ℕ) → k.mode ≡ File → IsPrinting defs o k held w → IsCutShort (held ++ []) w.written now w.writes after
+    → IsBroken (fmt_text defs) defs o (record { left = w.left; reads = w.reads; written = now; writes = after })
+print_let_short defs o w k held now after m p c = record {
+  past = p.past;
+  rest = k.left;
+  bytes = p.read.stands.bytes;
+  took = p.read.took;
+  none_behind = inl (subst (λ (x : Mode). stop_of x defs p.past.lines ≡ Open) m p.read.stands.is_open);
+  part = p.part ++ c.part;
+  more = c.rest;
+  gained = Gained-more o.written w.written now p.part c.part p.gained c.gained;
+  whole = sym (append-nil (fmt_text defs p.past.lines)) ∙ held_more (fmt_text defs p.past.lines) p.part held c.rest c.part [] p.whole c.whole;
+  rose = rw p.same at c.rose;
+}
 
 -- what is printed of the items at the end
 printed_end : (defs : List RecordDef) (end : TextEnd) (n : ℕ) (before : List Numbered) → lines_of defs (last_items end n before) ≡ lines_of defs before ++ end_line defs end

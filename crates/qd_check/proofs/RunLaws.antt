@@ -24,18 +24,16 @@ abbrev Printed : Type 0
 Printed = List (List ℕ) → List ℕ
 
 -- there was no memory to begin
-pub not_begun : (printed : List (List ℕ) → List ℕ) (defs : List RecordDef) (o : Outside) → printed [] ≡ [] → Runs printed defs o NoMemory o
-not_begun printed defs o e = inl (
-  texts.NoMemory,
-  refl,
-  record {
-    past = nothing;
-    rest = [];
-    ended = record { bytes = record { cut = record { whole = refl; each = tt }; short = tt; within = omega arith }; took = Took-none o.left; cause = (refl, inl refl, refl) };
-    gained = subst (λ (l : List ℕ). Gained o.written o.written l) (sym e) (Gained-none o.written);
-    same = refl;
-  },
-)
+pub not_begun : (printed : List (List ℕ) → List ℕ) (defs : List RecordDef) (o : Outside) → printed [] ≡ [] → IsPrinted printed defs o texts.NoMemory [] o
+not_begun printed defs o e = record {
+  past = nothing;
+  rest = [];
+  ended = record { bytes = record { cut = record { whole = refl; each = tt }; short = tt; within = omega arith }; took = Took-none o.left; cause = (refl, refl, refl) };
+  part = [];
+  gained = Gained-none o.written;
+  whole = e;
+  same = refl;
+}
 
 -- all is written
 whole : (printed : List (List ℕ) → List ℕ) (defs : List RecordDef) (o w : Outside) (end : TextEnd) (held : List ℕ) (now : Option (List ℕ)) (after : ℕ) → IsPrinted printed defs o end held w → IsWritten held w.written now w.writes after
@@ -75,7 +73,12 @@ flushed_so TooMuch flushed e = e
 flushed_so ReadFault flushed e = e
 flushed_so WriteFault flushed e = tt
 flushed_so Spent flushed e = e
-flushed_so NoMemory flushed e = tt
+flushed_so NoMemory flushed e = e
+
+-- the sink is flushed at the end
+pub flushed_at : (end : TextEnd) (last : RunEnd) (held : List ℕ) (was now : Option (List ℕ)) (flushed : Bool) (before after : ℕ) → Finishes end last held was now flushed before after → IsFlushed last flushed
+flushed_at end last held was now flushed before after (inl (e, c, f)) = flushed_so last flushed f
+flushed_at end last held was now flushed before after (inr (e, c)) = subst (λ (l : RunEnd). IsFlushed l flushed) (sym e) tt
 
 -- the end of a run whose text ended
 pub finished : (printed : List (List ℕ) → List ℕ) (defs : List RecordDef) (o w : Outside) (end : TextEnd) (last : RunEnd) (held : List ℕ) (now : Option (List ℕ)) (flushed : Bool) (after : ℕ) → IsPrinted printed defs o end held w

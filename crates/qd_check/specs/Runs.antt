@@ -1,6 +1,6 @@
 -- How a run of check or fmt ends, with the cause of each end and what is written then. What is printed is a function of
 -- the lines that were read.
-use Rattle.std.specs.Prelude.{ℕ, ◌≡◌, ◌⊎◌, Bool, true, Option, Some, List, ◌++◌}
+use Rattle.std.specs.Prelude.{ℕ, ◌≡◌, ◌⊎◌, Option, Some, List, ◌++◌}
 use Rattle.qd_grammar.specs.declared.item.Mode.TheVariants.{File}
 use Rattle.qd_items.specs.declared.ends.RunEnd.{RunEnd}
 use Rattle.qd_items.specs.declared.ends.RunEnd.TheVariants.{WriteFault, NoMemory}
@@ -8,6 +8,7 @@ use Rattle.qd_items.specs.declared.ends.TextEnd.{TextEnd}
 use Rattle.qd_items.specs.Deciding.{Decides}
 use Rattle.qd_items.specs.Ends.{IsEnded}
 use Rattle.qd_items.specs.Judging.{NoneBehind}
+pub use Rattle.qd_items.specs.Runs.{IsFlushed}
 use Rattle.qd_items.specs.Runs.{run_end}
 use Rattle.qd_items.specs.Standing.{Past, IsTaken}
 use Rattle.qd_outside.specs.Causes.{Rose}
@@ -56,12 +57,6 @@ pub record IsBroken (printed : List (List ℕ) → List ℕ) (defs : List Record
 -- the end of a run
 abbrev pub Runs : (List (List ℕ) → List ℕ) → List RecordDef → Outside → RunEnd → Outside → Type 0
 Runs printed defs o end w = ((last : TextEnd) × (end ≡ run_end last) × IsWhole printed defs o last w) ⊎ ((end ≡ WriteFault) × IsBroken printed defs o w)
-
--- where neither writing nor memory failed, the sink is flushed
-abbrev pub IsFlushed : RunEnd → Bool → Type 0
-IsFlushed WriteFault flushed = Unit {0}
-IsFlushed NoMemory flushed = Unit {0}
-IsFlushed end flushed = flushed ≡ true
 
 -- where no fault was counted, the text alone decides the end and what is written, but for want of memory
 abbrev pub IsDecided : (List (List ℕ) → List ℕ) → List RecordDef → Outside → RunEnd → Outside → Type 0

@@ -37,11 +37,11 @@ pub fn check<S: Source, K: Sink>(
         result (record { left = S.left source.new; reads = S.faults source.new; written = K.written sink.new; writes = K.faults sink.new }) }
     ensures kept { S.kept source.new ≡ S.kept source.old }
 {
+    let mut out = OutBuffer::new(alloc);
     let mut items = match Items::new(alloc, Mode::File) {
-        Err(_) => return RunEnd::NoMemory,
+        Err(_) => return finish(&mut out, sink, TextEnd::NoMemory),
         Ok(items) => items,
     };
-    let mut out = OutBuffer::new(alloc);
     let counted = count_items(scheme, &mut items, source);
     match print_count(counted, &mut out, sink) {
         None => RunEnd::WriteFault,

@@ -8,8 +8,6 @@
 mod count;
 mod finish;
 mod print;
-#[cfg(test)]
-mod tests;
 
 pub use count::check;
 pub use print::fmt;

@@ -15,8 +15,6 @@ mod fronts;
 mod laws;
 mod line;
 mod reading;
-#[cfg(test)]
-mod tests;
 mod writing;
 
 pub use fault::DecFault;

@@ -1,4 +1,5 @@
 pub mod Entries
+pub mod Balance
 pub mod Nodes
 pub mod Depth
 pub mod Stocked

@@ -5,6 +5,7 @@ use Rattle.qd_entries.specs.declared.Entry.{Entry}
 use Rattle.qd_entries.specs.declared.tree.Node.{Node}
 use Rattle.qd_entries.specs.declared.tree.Link.{Link}
 use Rattle.qd_entries.specs.declared.tree.Link.TheVariants.{Leaf, Fork}
+use Rattle.qd_entries.specs.Balance.{IsBalanced}
 
 -- a node's entries in order
 abbrev pub entries_of_node : Node → List Entry
@@ -19,10 +20,14 @@ abbrev pub entries_of : Link → List Entry
 entries_of Leaf = []
 entries_of (Fork b) = entries_of_node b.value
 
--- the number that the node keeps is how many entries there are
-abbrev pub IsSized : Link → Type 0
-IsSized Leaf = Unit {0}
-IsSized (Fork b) = b.value.len ≡ length (entries_of_node b.value)
+-- the number that the node keeps is how many entries there are, and the sides are balanced
+pub record IsNode (n : Node) : Type 0 where
+  pub sized : n.len ≡ length (entries_of_node n)
+  pub balanced : IsBalanced (length n.before) (length n.after)
+
+abbrev pub IsTree : Link → Type 0
+IsTree Leaf = Unit {0}
+IsTree (Fork b) = IsNode b.value
 
 -- the first of the entries is taken off, in a node with nothing below it; none where there are none
 abbrev pub TakesFirst : List Entry → List Entry → Option (Box Node Global) → Type 0

@@ -1,5 +1,5 @@
 //! Entries in falling order of index.
-ghost use Rattle.std.specs.Prelude.{◌≡◌, ◌+◌, ◌^◌, ◌<◌, ◌≤◌, ◌↔◌, [], length, max, slice_get, OnOk, IsTrue};
+ghost use Rattle.std.specs.Prelude.{◌≡◌, ◌+◌, ◌^◌, ◌<◌, ◌≤◌, ◌↔◌, [], length, max, slice_get, OnOk, OnErr, IsTrue};
 ghost use Rattle.qd_entries.specs.Entries.{Falls, cells_at, entry_at_or_below, put_entry, without_index};
 
 use crate::Entry;
@@ -90,6 +90,7 @@ impl Entries {
     /// Makes room for so many new entries. After want of memory there may be more room than before.
     pub fn reserve(&mut self, entries: u32) -> Result<(), AllocError>
         ensures ok { OnOk result (entries ≤ self.new.spare) }
+        ensures wants { OnErr result (self.old.spare < entries) }
         ensures entries { self.new.entries ≡ self.old.entries }
         ensures spare { self.old.spare ≤ self.new.spare }
         ensures most { self.new.spare ≤ max self.old.spare entries }

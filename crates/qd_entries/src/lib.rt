@@ -7,8 +7,6 @@
 
 mod entries;
 mod stock;
-#[cfg(test)]
-mod tests;
 mod tree;
 
 pub use entries::Entries;

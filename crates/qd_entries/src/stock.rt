@@ -81,6 +81,7 @@ impl Stock {
     /// Makes the room at least this. A room of 2^32 or more is refused, like want of memory.
     fn widen(&mut self, room: u64) -> Result<(), AllocError>
         ensures ok { OnOk result (room ≤ self.new.room) }
+        ensures wants { OnErr result (self.old.room < room) }
         ensures spare { self.new.spare ≡ self.old.spare }
         ensures room { self.old.room ≤ self.new.room }
         ensures few { self.new.room < 2 ^ 32 }
@@ -117,6 +118,7 @@ impl Stock {
         requires used { self.old.spare + used ≤ self.old.room }
         requires few { spare < 2 ^ 32 }
         ensures ok { OnOk result (spare ≤ self.new.spare) }
+        ensures wants { OnErr result (self.old.spare < spare) }
         ensures spare { self.old.spare ≤ self.new.spare }
         ensures most { self.new.spare ≤ max self.old.spare spare }
         ensures room { self.new.spare + used ≤ self.new.room }

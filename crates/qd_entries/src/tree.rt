@@ -1,6 +1,7 @@
 //! A tree of entries, balanced by how many entries each side has.
 ghost use Rattle.std.specs.Prelude.{◌≡◌, ◌+◌, ◌*◌, ◌^◌, ◌<◌, ◌≤◌, ◌↔◌, [], ◌∷◌, ◌++◌, length, slice_get, option_map, IsTrue};
-ghost use Rattle.qd_entries.specs.Nodes.{entries_of, entries_of_node, IsSized};
+ghost use Rattle.qd_entries.specs.Nodes.{entries_of, entries_of_node};
+ghost use Rattle.qd_entries.specs.Balance.{IsBalanced, IsNear};
 ghost use Rattle.qd_entries.specs.Entries.{Falls, cells_at, entry_at_or_below, put_entry, without_index};
 ghost use Rattle.qd_entries.specs.Nodes.{TakesFirst};
 
@@ -11,6 +12,7 @@ use std::marker::Model;
 use std::mem;
 
 /// A balanced tree, seen as its entries in order.
+// Each side weighs at most three times the other, so that the depth is at most a multiple of the logarithm.
 #[cycle(tree)]
 #[derive(Drop)]
 pub struct Tree {
@@ -41,11 +43,11 @@ impl Model for Tree {
 
     ghost Value = { List Entry };
 
-    ghost use Rattle.qd_entries.specs.Nodes.{entries_of, IsSized};
+    ghost use Rattle.qd_entries.specs.Nodes.{entries_of, IsTree};
 
     ghost view = { λ a. entries_of a.link };
 
-    ghost invariant = { λ a. IsSized a.link };
+    ghost invariant = { λ a. IsTree a.link };
 
     ghost size = { length };
 
@@ -168,6 +170,7 @@ impl Tree {
         requires few { length self.old < 2 ^ 32 }
         requires spare { 0 < stock.old.spare }
         ensures entries { Falls self.old → self.new ≡ put_entry entry.now self.old }
+        ensures keeps { length self.old ≤ length self.new }
         ensures grows { length self.new ≤ length self.old + 1 }
         ensures stock { stock.new.spare + length self.new ≡ stock.old.spare + length self.old }
         ensures room { stock.new.room ≡ stock.old.room }
@@ -222,6 +225,7 @@ impl Tree {
         requires room { stock.old.spare + length self.old ≤ stock.old.room }
         ensures entries { Falls self.old → self.new ≡ without_index index self.old }
         ensures shrinks { length self.new ≤ length self.old }
+        ensures keeps { length self.old ≤ length self.new + 1 }
         ensures stock { stock.new.spare + length self.new ≡ stock.old.spare + length self.old }
         ensures room { stock.new.room ≡ stock.old.room }
     {
@@ -249,6 +253,7 @@ impl Tree {
 /// The trees below a node, as one; nothing is left below it.
 fn joined(node: &mut Node) -> Tree
     requires few { length node.old.before + length node.old.after < 2 ^ 33 }
+    requires balanced { IsBalanced (length node.old.before) (length node.old.after) }
     ensures entries { result ≡ node.old.before ++ node.old.after }
     ensures before { node.new.before ≡ [] }
     ensures after { node.new.after ≡ [] }
@@ -266,6 +271,7 @@ fn joined(node: &mut Node) -> Tree
 /// A tree with this node on top.
 fn closed(mut node: Box<Node>) -> Tree
     requires few { length (entries_of_node node.value) < 2 ^ 34 }
+    requires balanced { IsBalanced (length node.value.before) (length node.value.after) }
     ensures entries { result ≡ entries_of_node node.value }
 {
     node.len = node.before.len() + node.after.len() + 1;
@@ -274,90 +280,81 @@ fn closed(mut node: Box<Node>) -> Tree
     }
 }
 
-/// A balanced tree of this node and the trees below it.
-// A side has at most three times as many entries as the other; one that has more goes up, by its inner side
-// where that has at least twice as many as its outer one. So the depth is at most a multiple of the logarithm.
-fn balanced(mut node: Box<Node>) -> Tree
+/// A tree of this node and the trees below it, of which one had an entry more or less when they were balanced.
+// The side that is too heavy goes up: by its top, or by the top of its inner side where that one weighs at least twice the outer one.
+fn balanced(node: Box<Node>) -> Tree
     requires few { length (entries_of_node node.value) < 2 ^ 34 }
+    requires near { IsNear (length node.value.before) (length node.value.after) }
     ensures entries { result ≡ entries_of_node node.value }
 {
-    let (before, after) = (node.before.len(), node.after.len());
-    if before + after < 2 {
-        return closed(node);
-    }
+    let (before, after) = (weight(&node.before), weight(&node.after));
     if before > 3 * after {
-        let side = mem::replace(&mut node.before, Tree::new());
-        node.before = leaning_before(side);
         return before_up(node);
     }
     if after > 3 * before {
-        let side = mem::replace(&mut node.after, Tree::new());
-        node.after = leaning_after(side);
         return after_up(node);
     }
     closed(node)
 }
 
-/// A tree whose side before its top is not much smaller than the other.
-fn leaning_before(tree: Tree) -> Tree
-    requires few { length tree < 2 ^ 34 }
-    ensures entries { result ≡ tree }
+/// What a side weighs: one more than its entries.
+fn weight(side: &Tree) -> u64
+    requires few { length side.now < 2 ^ 34 }
+    ensures { result ≡ length side.now + 1 }
 {
-    match tree.link {
-        Link::Leaf => Tree::new(),
-        Link::Fork(node) => {
-            if node.after.len() >= 2 * node.before.len() {
-                after_up(node)
-            } else {
-                closed(node)
-            }
-        }
-    }
+    side.len() + 1
 }
 
-/// A tree whose side after its top is not much smaller than the other.
-fn leaning_after(tree: Tree) -> Tree
-    requires few { length tree < 2 ^ 34 }
-    ensures entries { result ≡ tree }
-{
-    match tree.link {
-        Link::Leaf => Tree::new(),
-        Link::Fork(node) => {
-            if node.before.len() >= 2 * node.after.len() {
-                before_up(node)
-            } else {
-                closed(node)
-            }
-        }
-    }
-}
-
-/// The tree with the top of the side before the node on top.
+/// The tree with an entry of the side before the node on top, where that side is too heavy.
 fn before_up(mut node: Box<Node>) -> Tree
     requires few { length (entries_of_node node.value) < 2 ^ 34 }
+    requires near { IsNear (length node.value.before) (length node.value.after) }
+    requires heavy { 3 * (length node.value.after + 1) < length node.value.before + 1 }
     ensures entries { result ≡ entries_of_node node.value }
 {
-    match mem::replace(&mut node.before, Tree::new()).into_link() {
-        Link::Leaf => closed(node),
-        Link::Fork(mut top) => {
-            node.before = mem::replace(&mut top.after, Tree::new());
-            top.after = closed(node);
-            closed(top)
-        }
+    let mut top = top_of(mem::replace(&mut node.before, Tree::new()));
+    if weight(&top.after) < 2 * weight(&top.before) {
+        node.before = mem::replace(&mut top.after, Tree::new());
+        top.after = closed(node);
+        return closed(top);
     }
+    let mut inner = top_of(mem::replace(&mut top.after, Tree::new()));
+    top.after = mem::replace(&mut inner.before, Tree::new());
+    node.before = mem::replace(&mut inner.after, Tree::new());
+    inner.before = closed(top);
+    inner.after = closed(node);
+    closed(inner)
 }
 
-/// The tree with the top of the side after the node on top.
+/// The tree with an entry of the side after the node on top, where that side is too heavy.
 fn after_up(mut node: Box<Node>) -> Tree
     requires few { length (entries_of_node node.value) < 2 ^ 34 }
+    requires near { IsNear (length node.value.before) (length node.value.after) }
+    requires heavy { 3 * (length node.value.before + 1) < length node.value.after + 1 }
     ensures entries { result ≡ entries_of_node node.value }
 {
-    match mem::replace(&mut node.after, Tree::new()).into_link() {
-        Link::Leaf => closed(node),
-        Link::Fork(mut top) => {
-            node.after = mem::replace(&mut top.before, Tree::new());
-            top.before = closed(node);
-            closed(top)
-        }
+    let mut top = top_of(mem::replace(&mut node.after, Tree::new()));
+    if weight(&top.before) < 2 * weight(&top.after) {
+        node.after = mem::replace(&mut top.before, Tree::new());
+        top.before = closed(node);
+        return closed(top);
+    }
+    let mut inner = top_of(mem::replace(&mut top.before, Tree::new()));
+    top.before = mem::replace(&mut inner.after, Tree::new());
+    node.after = mem::replace(&mut inner.before, Tree::new());
+    inner.after = closed(top);
+    inner.before = closed(node);
+    closed(inner)
+}
+
+/// The node on top of a tree that has entries.
+fn top_of(tree: Tree) -> Box<Node>
+    requires some { 0 < length tree }
+    ensures entries { entries_of_node result.value ≡ tree }
+    ensures balanced { IsBalanced (length result.value.before) (length result.value.after) }
+{
+    match tree.link {
+        Link::Leaf => unreachable!(),
+        Link::Fork(node) => node,
     }
 }

@@ -10,8 +10,6 @@ ghost use Rattle.qd_flags.specs.Laws.{SegmentShows, CutTwice, UpdateKeepsFloor, 
 mod commits;
 mod flags;
 mod listener;
-#[cfg(test)]
-mod tests;
 
 pub use commits::{Commits, Floor, Ingest, begins_snapshot, is_removal, is_tx_pending};
 pub use flags::Flags;

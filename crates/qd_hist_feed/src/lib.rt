@@ -8,7 +8,5 @@
 mod feed;
 mod item;
 pub mod laws;
-#[cfg(test)]
-mod tests;
 
 pub use feed::{Feed, Stage};

@@ -4,8 +4,6 @@
 #![tactic(auto)]
 
 mod key_state;
-#[cfg(test)]
-mod tests;
 
 pub use key_state::KeyState;
 pub use qd_flags::{Ingest, NoMemory};

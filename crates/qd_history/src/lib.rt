@@ -16,6 +16,3 @@ mod tracks;
 
 pub use qd_hist_rules::{HistItem, HistoryReply};
 pub use stripe::HistoryStripe;
-
-#[cfg(test)]
-mod tests;

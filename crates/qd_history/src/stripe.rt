@@ -71,23 +71,41 @@ struct Gift {
 }
 
 impl HistoryStripe {
-    /// A stripe without subscriptions, where at most `hcap` events are owed to an agent.
+    /// A stripe without subscriptions, where at most `hcap` events are owed to an agent. Keys are hashed with the seed 0.
     pub fn new(alloc: Global, hcap: u16) -> Result<HistoryStripe, NoMemory>
         requires few { (1 ≤ hcap) × (hcap ≤ 4096) }
         ensures stands { IfOk result (λ s. Stands s []) }
         ensures terms { IfOk result (λ s. terms_in s ≡ terms_of hcap 0) }
     {
-        HistoryStripe::starting(alloc, hcap, 0)
+        HistoryStripe::with_seed(alloc, hcap, 0)
     }
 
-    /// A stripe without subscriptions that numbers its commits on from `commits`.
+    /// The same, with keys hashed with a seed, on which no answer depends.
+    pub fn with_seed(alloc: Global, hcap: u16, seed: u64) -> Result<HistoryStripe, NoMemory>
+        requires few { (1 ≤ hcap) × (hcap ≤ 4096) }
+        ensures stands { IfOk result (λ s. Stands s []) }
+        ensures terms { IfOk result (λ s. terms_in s ≡ terms_of hcap 0) }
+    {
+        HistoryStripe::seeded(alloc, hcap, 0, seed)
+    }
+
+    /// A stripe without subscriptions that numbers its commits on from `commits`. Keys are hashed with the seed 0.
     pub fn starting(alloc: Global, hcap: u16, commits: u64) -> Result<HistoryStripe, NoMemory>
         requires few { (1 ≤ hcap) × (hcap ≤ 4096) }
         requires low { commits ≤ 2 ^ 63 }
         ensures stands { IfOk result (λ s. Stands s []) }
         ensures terms { IfOk result (λ s. terms_in s ≡ terms_of hcap commits) }
     {
-        let table = SubTable::new(alloc)?;
+        HistoryStripe::seeded(alloc, hcap, commits, 0)
+    }
+
+    fn seeded(alloc: Global, hcap: u16, commits: u64, seed: u64) -> Result<HistoryStripe, NoMemory>
+        requires few { (1 ≤ hcap) × (hcap ≤ 4096) }
+        requires low { commits ≤ 2 ^ 63 }
+        ensures stands { IfOk result (λ s. Stands s []) }
+        ensures terms { IfOk result (λ s. terms_in s ≡ terms_of hcap commits) }
+    {
+        let table = SubTable::with_seed(alloc, seed)?;
         let sides = empty_sides(alloc)?;
         Ok(HistoryStripe {
             alloc,

@@ -2,3 +2,8 @@ pub mod Making
 pub mod Turning
 pub mod Owning
 pub mod Sending
+pub mod Staying
+pub mod StayingLogs
+pub mod StayingTicker
+pub mod StayingStream
+pub mod StayingHistory

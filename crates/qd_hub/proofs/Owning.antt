@@ -1,5 +1,5 @@
 -- A call of a state that one thread has.
-use Rattle.std.proofs.Common.{◌≡◌, ℕ, zero, suc, ◌^◌, ◌<◌, List, [], ◌∷◌, ◌++◌, length, refl, sym, ap, ◌∙◌, subst, arith, cond, eq-eqb, Some}
+use Rattle.std.proofs.Common.{◌≡◌, ℕ, zero, suc, ◌^◌, ◌<◌, List, [], ◌∷◌, ◌++◌, length, refl, sym, ap, ◌∙◌, subst, arith, cond, eq-eqb, Some, inl}
 use Rattle.std.specs.Prelude.{All, Ok, slice_get}
 use Rattle.std.proofs.lemmas.List.{length-set}
 use Rattle.std.proofs.lemmas.List.Elements.{All-push, All-head, All-tail, All-set}
@@ -11,7 +11,7 @@ use Rattle.qd_gate.specs.Passes.{Pass}
 use Rattle.qd_row.specs.Passes.{IsFirst}
 use Rattle.qd_row.specs.Rows.{Turns}
 use Rattle.qd_row.specs.Owns.{Enters, StepsAt}
-use Rattle.qd_hub.specs.Hubs.{Asks, LeavesOthers, AreOf}
+use Rattle.qd_hub.specs.Hubs.{Asks, LeavesOthers, AreOf, AreOwn}
 use Rattle.qd_hub.specs.Owns.{IsOwn, IsOwnAt, AllNew}
 use Rattle.qd_row.proofs.Rowing.{same_some}
 use Rattle.qd_hub.proofs.Turning.{All-at, get-set_same, get-set_other}
@@ -32,7 +32,7 @@ asked_of_own {S} may terms_of terms states i op all h s at = subst (λ (t : Term
 
 module _ {S O R : Type 0} where
   own_turns : (legal : Terms → List (Entry O R) → Type 0) (terms_of : S → Terms) (stands : S → List (Entry O R) → Type 0) (terms : Terms) (x y : S) (op : O) (reply : R) (p : Pass O R) → terms_of x ≡ terms → Enters terms_of stands legal x op reply y
-      → IsOwn legal stands terms x p → (q : Pass O R) × IsOwn legal stands terms y q × Turns legal p op (Ok reply) q
+      → IsOwn legal stands terms x p → (q : Pass O R) × IsOwn legal stands terms y q × (Turns legal p op (Ok reply) q × (q.looked ≡ p.looked))
   own_turns legal terms_of stands terms x y op reply p same step own =
       let e : Entry O R = entry p.number op reply in
       let of : p.terms ≡ terms_of x = own.same_terms ∙ sym same in
@@ -50,15 +50,18 @@ module _ {S O R : Type 0} where
           looked = own.looked;
         },
         (
-          (refl, refl, refl),
-          record {
-            between = [];
-            seen = ap (λ (l : List (Entry O R)). l ++ e ∷ []) (sym (append_nil p.seen));
-            mine = refl;
-            own = subst (λ (n : ℕ). calls_of n (p.seen ++ e ∷ []) ≡ p.mine ++ e ∷ []) (sym own.number) (all_calls 0 (p.seen ++ e ∷ []) all ∙ ap (λ (l : List (Entry O R)). l ++ e ∷ []) (sym own.mine));
-            is_legal = ok;
-            small = subst (λ (l : List ℕ). All (λ n. n < 2 ^ 63) l) (sym own.looked) (λ _ _ none. absurd (omega arith));
-          },
+          (
+            (refl, refl, refl),
+            record {
+              between = [];
+              seen = ap (λ (l : List (Entry O R)). l ++ e ∷ []) (sym (append_nil p.seen));
+              mine = refl;
+              own = subst (λ (n : ℕ). calls_of n (p.seen ++ e ∷ []) ≡ p.mine ++ e ∷ []) (sym own.number) (all_calls 0 (p.seen ++ e ∷ []) all ∙ ap (λ (l : List (Entry O R)). l ++ e ∷ []) (sym own.mine));
+              is_legal = ok;
+              small = subst (λ (l : List ℕ). All (λ n. n < 2 ^ 63) l) (sym own.looked) (λ _ _ none. absurd (omega arith));
+            },
+            refl,
+          ),
           refl,
         ),
       )
@@ -79,7 +82,7 @@ module _ {S O R : Type 0} where
   stepped_asks terms_of stands legal terms before after i op reply t all p own =
       let here : own.0 ≡ t.x = same_some own.0 t.x (sym own.1 ∙ t.there) in
       let turn = own_turns legal terms_of stands terms t.x t.y op reply p (All-at (λ (s : S). terms_of s ≡ terms) before i t.x all t.there) t.enters (subst (λ (x : S). IsOwn legal stands terms x p) here own.2) in
-      (turn.0, (t.y, ap (λ (l : List S). slice_get l i) t.after_is ∙ get-set_same before i t.y (slice_get_within before i t.x t.there), turn.1), turn.2)
+      (turn.0, (t.y, ap (λ (l : List S). slice_get l i) t.after_is ∙ get-set_same before i t.y (slice_get_within before i t.x t.there), turn.1), turn.2.0, inl turn.2.1)
 
   -- and no others
   pub stepped_others : (terms_of : S → Terms) (stands : S → List (Entry O R) → Type 0) (legal : Terms → List (Entry O R) → Type 0) (terms : Terms) (before after : List S) (i : ℕ) (op : O) (reply : R) → StepsAt terms_of stands legal before i op reply after
@@ -87,8 +90,19 @@ module _ {S O R : Type 0} where
   stepped_others terms_of stands legal terms before after i op reply t j p apart own = (own.0, ap (λ (l : List S). slice_get l j) t.after_is ∙ get-set_other before i j t.y apart ∙ own.1, own.2)
 
   -- the lists have the terms and the number 0
-  pub owns_are : (legal : Terms → List (Entry O R) → Type 0) (stands : S → List (Entry O R) → Type 0) (terms : Terms) (states : List S) → AreOf (λ i. terms) (λ i. 0) (IsOwnAt legal stands terms states)
-  owns_are legal stands terms states i p own = (own.2.same_terms, own.2.number)
+  pub owns_are : (legal : Terms → List (Entry O R) → Type 0) (stands : S → List (Entry O R) → Type 0) (terms : Terms) (states : List S) → AreOf legal (λ i. terms) (λ i. 0) (IsOwnAt legal stands terms states)
+  owns_are legal stands terms states i p own = (
+    own.2.same_terms,
+    own.2.number,
+    record {
+      is_legal = own.2.is_legal;
+      own = ap (λ (n : ℕ). calls_of n p.seen) own.2.number ∙ all_calls 0 p.seen own.2.own ∙ sym own.2.mine;
+    },
+  )
+
+  -- they are its own
+  pub owns_own : (legal : Terms → List (Entry O R) → Type 0) (stands : S → List (Entry O R) → Type 0) (terms : Terms) (states : List S) → AreOwn (IsOwnAt legal stands terms states)
+  owns_own legal stands terms states i p own = (own.2.mine, own.2.looked)
 
   -- new states stand for the empty lists
   pub new_owns : (legal : Terms → List (Entry O R) → Type 0) (stands : S → List (Entry O R) → Type 0) (terms_of : S → Terms) (terms : Terms) (n : ℕ) (states : List S) → AllNew stands terms_of n terms states → legal terms []

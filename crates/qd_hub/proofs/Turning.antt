@@ -1,6 +1,6 @@
 -- What a turn of one stripe leaves of a client's passes.
-use Rattle.std.proofs.Common.{◌≡◌, ◌≢◌, ℕ, zero, suc, ◌<◌, ◌≤◌, Bool, true, false, nat_eq, List, [], ◌∷◌, length, get_or, set, refl, sym, ap, ◌∙◌, subst, arith, Option, Some, None}
-use Rattle.std.specs.Prelude.{slice_get, All, Result, Ok, Err, IfErr, nat_lt}
+use Rattle.std.proofs.Common.{◌≡◌, ◌≢◌, ℕ, zero, suc, ◌<◌, ◌≤◌, Bool, true, false, nat_eq, List, [], ◌∷◌, ◌++◌, inr, length, get_or, set, refl, sym, ap, ◌∙◌, subst, arith, Option, Some, None}
+use Rattle.std.specs.Prelude.{slice_get, All, Result, Ok, Err, IfOk, IfErr, nat_lt}
 use Rattle.std.proofs.lemmas.Bool.Decides.{nat_tests}
 use Rattle.std.proofs.lemmas.List.{length-set, get_or-set_same, get_or-set_other}
 use Rattle.std.proofs.lemmas.List.Elements.{All-set, AllZip-get_or}
@@ -11,11 +11,11 @@ use Rattle.qd_gate.specs.declared.machine.Terms.{Terms}
 use Rattle.qd_gate.specs.declared.gate.NoTurn.{NoTurn}
 use Rattle.qd_gate.specs.Passes.{Pass}
 use Rattle.std.specs.List.{AllZip}
-use Rattle.qd_row.specs.Passes.{IsChild, IsUnion}
+use Rattle.qd_row.specs.Passes.{IsChild, IsUnion, IsSound}
 use Rattle.qd_row.specs.Rows.{homes, Turns, TurnsAt, JoinsAll}
 use Rattle.qd_row.proofs.Rowing.{as_many, same_some, turned_homes}
 use Rattle.qd_gate.specs.declared.gate.NoTurn.TheVariants.{Busy, Spent}
-use Rattle.qd_hub.specs.Hubs.{Asks, GivesBack, LeavesOthers, Alike, AreOf}
+use Rattle.qd_hub.specs.Hubs.{Asks, LooksOnce, GivesBack, LeavesOthers, Alike, AreOf}
 use Rattle.qd_hub.specs.Clients.{number_at, IsPassAt, ArePasses, AreFirst}
 
 abbrev number_of : {O R : Type 0} → Option (Pass O R) → ℕ
@@ -63,12 +63,17 @@ module _ {O R : Type 0} where
           ap (λ (k : ℕ). number_at (set before i t.q) k) at ∙ ap number_of (get-set_same before i t.q (slice_get_within before i t.p t.there)) ∙ t.turns.0.1
           ∙ sym (ap number_of t.there) ∙ sym (ap (λ (k : ℕ). number_at before k) at)
 
+  looked_once : (result : Result R (NoTurn O)) (p q : Pass O R) → IfOk result (λ (reply : R). (word : ℕ) × (q.looked ≡ p.looked ++ word ∷ [])) → IfOk result (λ (reply : R). LooksOnce p q)
+  looked_once (Ok reply) p q one = inr one
+  looked_once (Err why) p q one = tt
+
   -- the pass of the stripe took the turn
   pub turned_asks : (legal : Terms → List (Entry O R) → Type 0) (before after : List (Pass O R)) (i : ℕ) (op : O) (result : Result R (NoTurn O)) → TurnsAt legal before i op result after → Asks legal (IsPassAt before i) (IsPassAt after i) op result
   turned_asks legal before after i op result t p h = (
     t.q,
     ap (λ (l : List (Pass O R)). slice_get l i) t.after_is ∙ get-set_same before i t.q (slice_get_within before i t.p t.there),
     subst (λ (x : Pass O R). Turns legal x op result t.q) (same_some t.p p (sym t.there ∙ h)) t.turns,
+    subst (λ (x : Pass O R). IfOk result (λ (reply : R). LooksOnce x t.q)) (same_some t.p p (sym t.there ∙ h)) (looked_once result t.p t.q t.looked),
   )
 
   -- where there was none, the op comes back
@@ -90,8 +95,9 @@ module _ {O R : Type 0} where
   gate_of gates n terms passes i are h = let a = as_many passes gates are.of_gates in let b = are.count in omega (arith, h)
 
   -- the lists of the passes have the terms and their numbers
-  pub passes_are : (gates : List TableId) (n : ℕ) (terms : Terms) (passes : List (Pass O R)) → ArePasses gates n terms passes → AreOf (λ i. terms) (number_at passes) (IsPassAt passes)
-  passes_are gates n terms passes are i p h = (All-at (λ (q : Pass O R). q.terms ≡ terms) passes i p are.same h, sym (ap number_of h))
+  pub passes_are : (gates : List TableId) (n : ℕ) (terms : Terms) (passes : List (Pass O R)) (legal : Terms → List (Entry O R) → Type 0) → ArePasses gates n terms passes
+      → ((i : ℕ) (p : Pass O R) → slice_get passes i ≡ Some p → IsSound legal p) → AreOf legal (λ i. terms) (number_at passes) (IsPassAt passes)
+  passes_are gates n terms passes legal are sound i p h = (All-at (λ (q : Pass O R). q.terms ≡ terms) passes i p are.same h, sym (ap number_of h), sound i p h)
 
   homes_alike : (xs ys : List (Pass O R)) → length xs ≡ length ys → ((i : ℕ) (p q : Pass O R) → slice_get xs i ≡ Some p → slice_get ys i ≡ Some q → q.home ≡ p.home) → homes ys ≡ homes xs
   homes_alike [] [] e each = refl

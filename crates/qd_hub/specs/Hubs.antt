@@ -1,5 +1,5 @@
 -- What a hub stands for, and what a call of it does.
-use Rattle.std.specs.Prelude.{◌≡◌, ◌≢◌, ℕ, List, [], map, All, Result}
+use Rattle.std.specs.Prelude.{◌≡◌, ◌≢◌, ◌⊎◌, ℕ, List, [], ◌∷◌, ◌++◌, map, All, Result, IfOk}
 use Rattle.atomic_table.specs.Seated.{TableId}
 use Rattle.qd_scheme.specs.declared.key.Key.{Key}
 use Rattle.qd_scheme.specs.Stripes.{stripe_of}
@@ -8,6 +8,7 @@ use Rattle.qd_gate.specs.declared.machine.Terms.{Terms}
 use Rattle.qd_gate.specs.declared.gate.NoTurn.{NoTurn}
 use Rattle.qd_gate.specs.declared.gate.NoTurn.TheVariants.{Busy, Spent}
 use Rattle.qd_gate.specs.Passes.{Pass}
+use Rattle.qd_row.specs.Passes.{IsSound}
 use Rattle.qd_row.specs.Rows.{Turns}
 use Rattle.qd_scheme.specs.declared.key.Record.{Record}
 use Rattle.qd_sub.specs.declared.op.Op.{Op}
@@ -52,9 +53,13 @@ GivesBack op (Busy first then back) = back ≡ op
 GivesBack op (Spent word back) = back ≡ op
 
 module _ {O R : Type 0} where
-  -- whatever lists it stood for before, it stands for those with the call, which was answered or refused with its reason
+  -- no word was found, or one
+  abbrev pub LooksOnce : Pass O R → Pass O R → Type 0
+  LooksOnce p q = (q.looked ≡ p.looked) ⊎ ((word : ℕ) × (q.looked ≡ p.looked ++ word ∷ []))
+
+  -- whatever lists it stood for before, it stands for those with the call, which was answered after one look at most, or refused with its reason
   abbrev pub Asks : (Terms → List (Entry O R) → Type 0) → (Pass O R → Type 0) → (Pass O R → Type 0) → O → Result R (NoTurn O) → Type 0
-  Asks legal before after op result = (p : Pass O R) → before p → (q : Pass O R) × after q × Turns legal p op result q
+  Asks legal before after op result = (p : Pass O R) → before p → (q : Pass O R) × after q × Turns legal p op result q × IfOk result (λ reply. LooksOnce p q)
 
   -- whatever lists it stood for before, it stands for them still
   abbrev pub Leaves : (ℕ → Pass O R → Type 0) → (ℕ → Pass O R → Type 0) → Type 0
@@ -64,9 +69,13 @@ module _ {O R : Type 0} where
   abbrev pub LeavesOthers : ℕ → (ℕ → Pass O R → Type 0) → (ℕ → Pass O R → Type 0) → Type 0
   LeavesOthers stripe before after = (i : ℕ) (p : Pass O R) → i ≢ stripe → before i p → after i p
 
-  -- the lists for which it stands have these terms and this number
-  abbrev pub AreOf : (ℕ → Terms) → (ℕ → ℕ) → (ℕ → Pass O R → Type 0) → Type 0
-  AreOf terms number stands = (i : ℕ) (p : Pass O R) → stands i p → (p.terms ≡ terms i) × (p.number ≡ number i)
+  -- the lists for which it stands have these terms and this number; what was seen is legal, and its calls are all that this has of the number
+  abbrev pub AreOf : (Terms → List (Entry O R) → Type 0) → (ℕ → Terms) → (ℕ → ℕ) → (ℕ → Pass O R → Type 0) → Type 0
+  AreOf legal terms number stands = (i : ℕ) (p : Pass O R) → stands i p → (p.terms ≡ terms i) × (p.number ≡ number i) × IsSound legal p
+
+  -- the lists for which it stands are its own: it made all calls, and found no word
+  abbrev pub AreOwn : (ℕ → Pass O R → Type 0) → Type 0
+  AreOwn stands = (i : ℕ) (p : Pass O R) → stands i p → (p.mine ≡ p.seen) × (p.looked ≡ [])
 
 -- the same for each stripe
 abbrev pub Alike : {X : Type 0} → (ℕ → X) → (ℕ → X) → Type 0

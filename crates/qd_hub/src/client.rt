@@ -165,6 +165,9 @@ impl Hub for HubClient {
     ghost history = { λ c i p. IsPassAt c.history i p };
 
     fn stripes(&self) -> u8 {
+        self.ticker.look();
+        self.stream.look();
+        self.history.look();
         self.config.stripes()
     }
 

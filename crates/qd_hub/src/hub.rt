@@ -4,7 +4,7 @@ ghost use Rattle.std.specs.Prelude.{◌≡◌, ◌<◌, ℕ, IsOk, IfErr, Option
 ghost use Rattle.qd_gate.specs.declared.machine.Terms.{Terms};
 ghost use Rattle.qd_scheme.specs.Stripes.{IsStripeCount};
 ghost use Rattle.qd_stream.specs.Items.{key_of_item};
-ghost use Rattle.qd_hub.specs.Hubs.{Home, TickerPass, StreamPass, HistoryPass, IsOfStripe, Asks, GivesBack, Leaves, LeavesOthers, AreOf, Alike};
+ghost use Rattle.qd_hub.specs.Hubs.{Home, TickerPass, StreamPass, HistoryPass, IsOfStripe, Asks, GivesBack, Leaves, LeavesOthers, AreOf, AreOwn, Alike};
 
 use qd_gate::{Machine, NoTurn};
 use qd_hist_rules::{HistItem, HistoryReply};
@@ -62,13 +62,14 @@ pub trait Hub: Drop {
 
     ghost history: { Self → ℕ → HistoryPass → Type 0 };
 
-    /// How many stripes each collector has.
+    /// How many stripes each collector has. It also tells what holds of all lists for which the hub stands.
     fn stripes(&self) -> u8
         ensures stripes { result ≡ stripes self.now }
         ensures count { IsStripeCount result }
-        ensures ticker { AreOf (ticker_terms self.now) (ticker_number self.now) (ticker self.now) }
-        ensures stream { AreOf (stream_terms self.now) (stream_number self.now) (stream self.now) }
-        ensures history { AreOf (history_terms self.now) (history_number self.now) (history self.now) };
+        ensures ticker { AreOf ⟦<TickerStripe as Machine>⟧.legal (ticker_terms self.now) (ticker_number self.now) (ticker self.now) }
+        ensures stream { AreOf ⟦<StreamStripe as Machine>⟧.legal (stream_terms self.now) (stream_number self.now) (stream self.now) }
+        ensures history { AreOf ⟦<HistoryStripe as Machine>⟧.legal (history_terms self.now) (history_number self.now) (history self.now) }
+        ensures own { is_alone self.now → AreOwn (ticker self.now) × AreOwn (stream self.now) × AreOwn (history self.now) };
 
     /// Asks a stripe of the ticker.
     fn try_ticker(&mut self, stripe: u8, op: TickerOp) -> Result<TickerReply, NoTurn<TickerOp>>

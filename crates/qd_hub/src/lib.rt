@@ -5,22 +5,13 @@
 //! the passes of one caller: clients are split for further threads, and taken in again.
 #![tactic(auto)]
 
-#[cfg(test)]
-mod ask_samples;
-#[cfg(test)]
-mod caller_tests;
 mod client;
 mod config;
 mod crossing;
-#[cfg(test)]
-mod distributor_tests;
 mod hub;
+pub mod laws;
 mod make;
-#[cfg(test)]
-mod op_samples;
 mod own;
-#[cfg(test)]
-mod tests;
 
 pub use client::{HubClient, Shared};
 pub use config::Config;

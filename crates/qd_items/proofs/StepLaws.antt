@@ -7,6 +7,7 @@ use Rattle.qd_grammar.specs.declared.item.Item.TheVariants as items
 use Rattle.qd_grammar.specs.declared.item.Mode.{Mode}
 use Rattle.qd_grammar.specs.declared.state.State.{State}
 use Rattle.qd_line.specs.Lines.{is_one_line, joined, without_cr}
+use Rattle.qd_line.proofs.Feeds.{has_feed}
 use Rattle.qd_line.proofs.Pasts.{cut_more}
 use Rattle.qd_outside.specs.Reading.{Took}
 use Rattle.qd_outside.proofs.Streams.{Took-none, Took-more}
@@ -20,7 +21,7 @@ use Rattle.qd_items.specs.declared.items.NextItem.TheVariants as nexts
 use Rattle.qd_items.specs.Judging.{Numbered, is_end, said, items_of, state_of, stop_of, stop_with, with_said, or_first}
 use Rattle.qd_items.specs.Judging.Stop.{Open, AtBad}
 use Rattle.qd_items.specs.Standing.{Kept, Past, IsTaken, StandsFor, IsRead, opening, nothing}
-use Rattle.qd_items.specs.Steps.{Judges, Steps, WentOn}
+use Rattle.qd_items.specs.Steps.{IsOfRead, Judges, Steps, WentOn, WillRead}
 use Rattle.qd_items.specs.Work.{work, Lowers}
 use Rattle.qd_items.specs.Ends.{EndsAt, ComesNext}
 
@@ -252,19 +253,7 @@ ends_at defs start p k new was now before after ReadFault w (hungry, few, counte
       counted ∙ s.count,
       λ e. cc,
     )
-ends_at defs start p k new was now before after NoMemory w (hungry, (bytes, took, some, within), counted, same) =
-    let s = w.read.stands in
-    let m = s.number in
-    let n = length-append k.left bytes in
-    let more : 0 < length (k.left ++ bytes) = omega (arith, n, some) in (
-      with_bytes bytes w.past,
-      k.left ++ bytes,
-      record { bytes = taken_bytes w.past k.left bytes s.bytes (omega (arith, m, within)); took = Took-more start was now w.past.taken bytes w.read.took took; cause = (s.is_open, inr more, same) },
-      (w.more, w.lines),
-      w.same,
-      counted ∙ s.count,
-      λ e. more,
-    )
+ends_at defs start p k new was now before after NoMemory w s = absurd s
 
 -- a step that gives an item or an end
 pub comes_next : (defs : List RecordDef) (start : Option (List ℕ)) (p : Past) (k new : Kept) (was now : Option (List ℕ)) (before after : ℕ) (next : NextItem) → new.mode ≡ k.mode → WentOn defs start p k was
@@ -304,6 +293,23 @@ next_less defs k new was now before after (nexts.Ended end) s = tt
 pub lowers_more : (next : NextItem) (k mid new : Kept) → work mid ≤ work k → Lowers next mid new → Lowers next k new
 lowers_more (nexts.Item item) k mid new l h = omega (arith, l, h)
 lowers_more (nexts.Ended end) k mid new l h = tt
+
+-- a reader that will read has no line to judge
+no_judge : (defs : List RecordDef) (k new : Kept) (line : List ℕ) → WillRead k → Judges defs k new line → ⊥
+no_judge defs k new line h j = has_feed line new.left (subst (λ (l : List ℕ). is_one_line l ≡ true) j.stood h.hungry.one)
+
+pub hungry_reads : (defs : List RecordDef) (k new : Kept) (next : Option NextItem) (was now : Option (List ℕ)) (before after : ℕ)
+    → WillRead k → Steps defs k next new was now before after → IsOfRead defs k next new was now before after
+hungry_reads defs k new None was now before after h (inl (line, j, e, same)) = absurd (no_judge defs k new line h j)
+hungry_reads defs k new None was now before after h (inr r) = r
+hungry_reads defs k new (Some (nexts.Item item)) was now before after h s = absurd (no_judge defs k new s.0 h s.1)
+hungry_reads defs k new (Some (nexts.Ended End)) was now before after h s = absurd (no_judge defs k new s.0 h s.1)
+hungry_reads defs k new (Some (nexts.Ended (Bad bad))) was now before after h s = absurd (no_judge defs k new s.0 h s.1)
+hungry_reads defs k new (Some (nexts.Ended (LineTooLong n))) was now before after h s = let a = h.hungry.short in let b = s.0.long in absurd (omega arith)
+hungry_reads defs k new (Some (nexts.Ended (CutOff n))) was now before after h s = (s.4, s.5)
+hungry_reads defs k new (Some (nexts.Ended TooMuch)) was now before after h s = let a = h.few in let b = s.1 in absurd (omega arith)
+hungry_reads defs k new (Some (nexts.Ended ReadFault)) was now before after h s = s.4
+hungry_reads defs k new (Some (nexts.Ended NoMemory)) was now before after h s = absurd s
 
 -- a line is no shorter than its text
 pub text_short : (line : List ℕ) → length (without_cr line) ≤ length line

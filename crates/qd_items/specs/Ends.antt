@@ -1,5 +1,5 @@
 -- What comes next of a text: an item, or its end with the cause.
-use Rattle.std.specs.Prelude.{ℕ, ◌≡◌, ◌⊎◌, ◌+◌, ◌<◌, ◌^◌, false, Option, List, ◌∷◌, ◌++◌, length}
+use Rattle.std.specs.Prelude.{ℕ, ◌≡◌, ◌+◌, ◌<◌, ◌^◌, false, Option, List, ◌∷◌, ◌++◌, length}
 use Rattle.qd_grammar.specs.declared.item.Item.TheVariants as items
 use Rattle.qd_grammar.specs.declared.item.Mode.{Mode}
 use Rattle.qd_line.specs.Cutter.{IsHungry, IsTooLong}
@@ -30,10 +30,10 @@ Causes ReadFault stop count rest taken left = ⊥
 Causes NoMemory stop count rest taken left = ⊥
 
 -- the cause of an end: of the bytes, where no fault was counted; or a fault, where all whole lines were judged; or want of
--- memory, before the first byte or with bytes that are not judged yet
+-- memory, before the first byte
 abbrev pub Cause : TextEnd → Stop → ℕ → List ℕ → ℕ → Option (List ℕ) → ℕ → ℕ → Type 0
 Cause ReadFault stop count rest taken left before after = IsUnended stop rest × (taken < 2 ^ 40) × Rose before after
-Cause NoMemory stop count rest taken left before after = (stop ≡ Open) × ((taken ≡ 0) ⊎ (0 < length rest)) × (after ≡ before)
+Cause NoMemory stop count rest taken left before after = (stop ≡ Open) × (taken ≡ 0) × (after ≡ before)
 Cause end stop count rest taken left before after = Causes end stop count rest taken left × (after ≡ before)
 
 -- the text ended in this past, with what follows its lines
@@ -47,15 +47,14 @@ abbrev pub last_items : TextEnd → ℕ → List Numbered → List Numbered
 last_items End line before = record { line = line; item = items.End } ∷ before
 last_items end line before = before
 
--- from a past on, the text ended, once so many lines were judged; a reader that is there wants memory only for bytes that
--- were read
+-- from a past on, the text ended, once so many lines were judged; a reader that is there wants no memory
 abbrev pub EndsAt : Mode → List RecordDef → Option (List ℕ) → Past → TextEnd → ℕ → Option (List ℕ) → ℕ → ℕ → Type 0
 EndsAt mode defs start p end lines left before after =
     (q : Past) × (rest : List ℕ) × IsEnded mode defs start end q rest left before after
     × ((more : List (List ℕ)) × (q.lines ≡ more ++ p.lines))
     × (items_of mode defs q.lines ≡ last_items end (length q.lines) (items_of mode defs p.lines))
     × (lines ≡ length q.lines)
-    × (end ≡ NoMemory → 0 < length rest)
+    × (end ≡ NoMemory → ⊥)
 
 -- from a past on: the next item, which is not END and stands on the line judged last; or the end. Lines that were skipped
 -- are passed over

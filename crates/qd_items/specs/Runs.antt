@@ -1,4 +1,5 @@
--- The end of a run whose text ended.
+-- The end of a run whose text ended, and what it leaves of the sink.
+use Rattle.std.specs.Prelude.{◌≡◌, Bool, true}
 use Rattle.qd_items.specs.declared.ends.TextEnd.{TextEnd}
 use Rattle.qd_items.specs.declared.ends.TextEnd.TheVariants.{End, CutOff, Bad, LineTooLong, TooMuch, ReadFault, NoMemory}
 use Rattle.qd_items.specs.declared.ends.RunEnd.{RunEnd}
@@ -12,3 +13,8 @@ run_end (LineTooLong line) = runs.LineTooLong line
 run_end TooMuch = runs.TooMuch
 run_end ReadFault = runs.ReadFault
 run_end NoMemory = runs.NoMemory
+
+-- the sink is flushed at each end but a fault of writing
+abbrev pub IsFlushed : RunEnd → Bool → Type 0
+IsFlushed runs.WriteFault flushed = Unit {0}
+IsFlushed end flushed = flushed ≡ true

@@ -1,5 +1,5 @@
 -- What each small step of a reader of items does: it judges a line, or reads once.
-use Rattle.std.specs.Prelude.{ℕ, ◌≡◌, ◌+◌, ◌<◌, ◌≤◌, ◌⊎◌, ◌^◌, true, false, Option, Some, None, Ok, Err, List, [], ◌∷◌, ◌++◌, length}
+use Rattle.std.specs.Prelude.{ℕ, ◌≡◌, ◌+◌, ◌<◌, ◌≤◌, ◌⊎◌, ◌^◌, Bool, true, false, Option, Some, None, Ok, Err, List, [], ◌∷◌, ◌++◌, length}
 use Rattle.qd_grammar.specs.declared.item.Item.TheVariants as items
 use Rattle.qd_line.specs.Cutter.{IsHungry, IsTooLong}
 use Rattle.qd_line.specs.Lines.{is_one_line}
@@ -51,8 +51,29 @@ Steps defs k (Some (nexts.Ended (CutOff line))) new was now before after =
 Steps defs k (Some (nexts.Ended TooMuch)) new was now before after = IsHungry k.left × (k.taken ≡ 2 ^ 40) × (new.lines ≡ k.lines) × IsSame was now before after
 Steps defs k (Some (nexts.Ended ReadFault)) new was now before after =
     IsHungry k.left × (k.taken < 2 ^ 40) × (new.lines ≡ k.lines) × Took was now [] × Rose before after
-Steps defs k (Some (nexts.Ended NoMemory)) new was now before after =
-    IsHungry k.left × ((bytes : List ℕ) × Took was now bytes × (1 ≤ length bytes) × (k.taken + length bytes ≤ 2 ^ 40)) × (new.lines ≡ k.lines) × (after ≡ before)
+Steps defs k (Some (nexts.Ended NoMemory)) new was now before after = ⊥
+
+-- the next step reads
+pub record WillRead (k : Kept) : Type 0 where
+  pub hungry : IsHungry k.left
+  pub few : k.taken < 2 ^ 40
+
+-- the answer whether the next step reads
+abbrev pub TellsRead : Bool → Kept → Type 0
+TellsRead true k = WillRead k
+TellsRead false k = WillRead k → ⊥
+
+-- what a read came to: bytes, the end of the source, or a fault
+abbrev pub IsOfRead : List RecordDef → Kept → Option NextItem → Kept → Option (List ℕ) → Option (List ℕ) → ℕ → ℕ → Type 0
+IsOfRead defs k None new was now before after = Reads k new was now before after
+IsOfRead defs k (Some (nexts.Ended (CutOff line))) new was now before after = Took was now [] × IsSpent now
+IsOfRead defs k (Some (nexts.Ended ReadFault)) new was now before after = Rose before after
+IsOfRead defs k next new was now before after = ⊥
+
+-- a step of a reader that will read is a read
+abbrev pub HungryReads : Type 0
+HungryReads = (defs : List RecordDef) (k new : Kept) (next : Option NextItem) (was now : Option (List ℕ)) (before after : ℕ)
+    → WillRead k → Steps defs k next new was now before after → IsOfRead defs k next new was now before after
 
 -- a past in which no item is there that was not there before
 pub record WentOn (defs : List RecordDef) (start : Option (List ℕ)) (p : Past) (k : Kept) (left : Option (List ℕ)) : Type 0 where

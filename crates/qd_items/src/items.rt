@@ -1,6 +1,6 @@
 //! The items of a text, one after another.
 
-ghost use Rattle.std.specs.Prelude.{◌≡◌, ◌≤◌, ◌<◌, ◌+◌, ◌^◌, IfOk, Option, List, ℕ, length, take};
+ghost use Rattle.std.specs.Prelude.{◌≡◌, ◌≤◌, ◌<◌, ◌+◌, ◌^◌, ◌++◌, [], IfOk, Option, List, ℕ, length, take};
 ghost use Rattle.qd_outside.specs.Reading.{Took, Tells, bytes_got};
 ghost use Rattle.qd_grammar.specs.Lines.{answer_of};
 ghost use Rattle.qd_items.specs.Gives.{Gives, came, told};
@@ -29,9 +29,11 @@ pub enum NextItem {
 }
 
 /// What one step came to.
-#[derive(Clone, Copy)]
-enum Turn {
+#[derive(Clone, Copy, Debug)]
+pub enum Turn {
+    /// Bytes were read, or a line was skipped.
     Went,
+    /// An item, which [`Items::item`] tells.
     Came,
     Ended(TextEnd),
 }
@@ -62,18 +64,18 @@ impl Model for Items {
     } };
 
     ghost invariant = { λ i. (i.reader.lines ≡ i.cutter.line) × (i.cutter.line + length i.cutter.left ≤ i.taken)
-        × (i.taken ≤ 2 ^ 40) × (0 < vec_len i.piece) };
+        × (i.taken ≤ 2 ^ 40) × (0 < vec_len i.piece) × (vec_len i.piece ≤ 65536) };
 }
 
 impl Items {
     ghost use Rattle.qd_items.specs.Ends.{ComesNext};
     ghost use Rattle.qd_items.specs.Standing.{Past, IsRead, opening};
-    ghost use Rattle.qd_items.specs.Steps.{Steps};
+    ghost use Rattle.qd_items.specs.Steps.{Steps, TellsRead, WillRead};
     ghost use Rattle.qd_items.specs.Work.{Lowers};
     ghost use Rattle.qd_line.specs.Cutter.{IsHungry};
     ghost use Rattle.qd_scheme.specs.declared.defs.RecordDef.{RecordDef};
 
-    /// Before the first line.
+    /// Before the first line. All memory that the reading wants is taken here.
     pub fn new(alloc: Global, mode: Mode) -> Result<Items, AllocError>
         ensures { IfOk result (λ i. i ≡ opening mode) }
     {
@@ -133,10 +135,23 @@ impl Items {
         }
     }
 
-    /// Judges the next line, or reads once.
-    fn step<S: Source>(&mut self, scheme: &Scheme, source: &mut S) -> Turn
+    /// Whether the next step reads: neither a whole line nor a too long one is left to be judged, and fewer than 2^40 bytes
+    /// were read.
+    pub fn is_hungry(&mut self) -> bool
+        ensures tells { TellsRead result self.old }
+        ensures same { self.new ≡ self.old }
+    {
+        if self.taken == MOST_BYTES {
+            return false;
+        }
+        self.cutter.is_hungry()
+    }
+
+    /// Judges the next line, or reads once where [`Items::is_hungry`] tells so.
+    pub fn step<S: Source>(&mut self, scheme: &Scheme, source: &mut S) -> Turn
         ensures mode { self.new.mode ≡ self.old.mode }
         ensures kept { S.kept source.new ≡ S.kept source.old }
+        ensures quiet { (WillRead self.old → ⊥) → source.new ≡ source.old }
         ensures steps { Steps scheme.now self.old (told result self.new.item) self.new (S.left source.old) (S.left source.new) (S.faults source.old) (S.faults source.new) }
     {
         match self.cutter.next_line() {
@@ -153,9 +168,11 @@ impl Items {
 
     /// Reads once.
     fn read<S: Source>(&mut self, source: &mut S) -> Turn
+        requires { IsHungry self.old.left }
         ensures mode { self.new.mode ≡ self.old.mode }
         ensures kept { S.kept source.new ≡ S.kept source.old }
-        ensures reads { IsHungry self.old.left → (defs : List RecordDef) → Steps defs self.old (told result self.new.item) self.new (S.left source.old) (S.left source.new) (S.faults source.old) (S.faults source.new) }
+        ensures quiet { self.old.taken ≡ 2 ^ 40 → source.new ≡ source.old }
+        ensures reads { (defs : List RecordDef) → Steps defs self.old (told result self.new.item) self.new (S.left source.old) (S.left source.new) (S.faults source.old) (S.faults source.new) }
     {
         if self.taken == MOST_BYTES {
             return Turn::Ended(TextEnd::TooMuch);
@@ -163,9 +180,7 @@ impl Items {
         let most = (MOST_BYTES - self.taken) as usize;
         match read_some(source, &mut self.piece, most) {
             Read::Got(n) => {
-                if self.cutter.feed(&self.piece[..n]).is_err() {
-                    return Turn::Ended(TextEnd::NoMemory);
-                }
+                feed(&mut self.cutter, &self.piece[..n]);
                 self.taken += n as u64;
                 Turn::Went
             }
@@ -192,6 +207,14 @@ fn judge(reader: &mut Reader, scheme: &Scheme, line: &[u8], item: &mut Item) -> 
         },
         Err(bad) => Turn::Ended(TextEnd::Bad(bad)),
     }
+}
+
+/// Feeds a piece for which there is room.
+fn feed(cutter: &mut LineCutter, piece: &[u8])
+    requires { length cutter.old.left + length piece.now ≤ 69632 }
+    ensures { cutter.new ≡ record { text = []; left = cutter.old.left ++ piece.now; line = cutter.old.line } }
+{
+    let _ = cutter.feed(piece);
 }
 
 /// Reads at most so many bytes, once, into the front of a piece.

@@ -1,9 +1,10 @@
 -- Bytes with no line feed, by index.
-use Rattle.std.proofs.Common.{◌≡◌, ℕ, zero, suc, ◌+◌, ◌-◌, ◌<◌, ◌≤◌, min, Bool, true, false, List, [], ◌∷◌, length, take, drop, get_or, slice_range, refl, sym, ◌∙◌, ap, arith, length-take, length-drop}
-use Rattle.std.specs.Prelude.{◌==◌, ◌&&◌, not, nat_eq, nat_lt}
+use Rattle.std.proofs.Common.{◌≡◌, ℕ, zero, suc, ◌+◌, ◌-◌, ◌<◌, ◌≤◌, min, Bool, true, false, List, [], ◌∷◌, ◌++◌, length, take, drop, get_or, slice_range, refl, sym, ◌∙◌, ap, arith, length-take, length-drop}
+use Rattle.std.specs.Prelude.{◌==◌, ◌&&◌, not, nat_eq, nat_le, nat_lt}
 use Rattle.std.proofs.lemmas.Bool.Decides.{nat_tests}
 use Rattle.std.proofs.lemmas.List.{get_or-take, get_or-drop, take_all}
 use Rattle.memchr.specs.Find.{Nowhere, Passes, is_byte}
+use Rattle.qd_line.specs.Cutter.{TellsHungry}
 use Rattle.qd_line.specs.Lines.{is_one_line}
 
 not_feed : (b : ℕ) → (b ≡ 10 → ⊥) → not (nat_eq b 10) ≡ true
@@ -71,3 +72,22 @@ take_less [] (suc n) zero h = refl
 take_less [] (suc n) (suc m) h = refl
 take_less (b ∷ bytes) (suc n) zero h = absurd (omega arith)
 take_less (b ∷ bytes) (suc n) (suc m) h = ap (λ (t : List ℕ). b ∷ t) (take_less bytes n m (omega arith))
+
+-- bytes with a line feed are no part of a line
+pub has_feed : (front rest : List ℕ) → is_one_line (front ++ 10 ∷ rest) ≡ true → ⊥
+has_feed [] rest h = cc
+has_feed (b ∷ front) rest h = has_feed front rest (and_right (not (nat_eq b 10)) (is_one_line (front ++ 10 ∷ rest)) h)
+
+-- bytes whose first 4097 have no line feed are hungry where these are all of them
+pub told_hungry : (left : List ℕ) (window : ℕ) → window ≡ min (length left) 4097 → is_one_line (take 4097 left) ≡ true → TellsHungry (nat_le window 4096) left
+told_hungry left window e none = go (nat_le window 4096) refl
+  where
+    go : (t : Bool) → nat_le window 4096 ≡ t → TellsHungry t left
+    go true t =
+        let few : window ≤ 4096 = grind (arith, nat_tests) in
+        let size : length left ≤ 4096 = omega arith in
+        record { one = ap (λ (l : List ℕ). is_one_line l) (sym (take_all 4097 left (omega arith))) ∙ none; short = size }
+    go false t = λ h.
+        let many : 4096 < window = grind (arith, nat_tests) in
+        let size = h.short in
+        absurd (omega arith)

@@ -1,5 +1,5 @@
 -- What a cutter of lines holds, what a call answers, and for which past it stands.
-use Rattle.std.specs.Prelude.{ℕ, ◌≡◌, ◌+◌, ◌<◌, ◌≤◌, true, List, [], ◌∷◌, ◌++◌, length, take, map}
+use Rattle.std.specs.Prelude.{ℕ, ◌≡◌, ◌+◌, ◌<◌, ◌≤◌, Bool, true, false, List, [], ◌∷◌, ◌++◌, length, take, map}
 use Rattle.qd_line.specs.declared.cutter.Next.{Next}
 use Rattle.qd_line.specs.declared.cutter.Next.TheVariants.{Line, None, TooLong}
 use Rattle.qd_line.specs.Lines.{is_one_line, without_cr, IsCut}
@@ -17,6 +17,11 @@ pub record GivesLine (old new : Held) (line : List ℕ) : Type 0 where
 pub record IsHungry (left : List ℕ) : Type 0 where
   pub one : is_one_line left ≡ true
   pub short : length left ≤ 4096
+
+-- the answer whether more bytes are wanted
+abbrev pub TellsHungry : Bool → List ℕ → Type 0
+TellsHungry true left = IsHungry left
+TellsHungry false left = IsHungry left → ⊥
 
 -- the first 4097 bytes have no line feed
 pub record IsTooLong (left : List ℕ) : Type 0 where

@@ -4,6 +4,10 @@ use crate::finding::{MOST, feed_at, text_len};
 use std::alloc::{AllocError, Global};
 use std::marker::Model;
 
+/// How many bytes a cutter has room for from the start: those that are left where no line comes next, and a piece of
+/// 64 KiB.
+const ROOM: usize = MOST + 65_536;
+
 /// Memory was refused.
 pub type NoMemory = AllocError;
 
@@ -58,6 +62,7 @@ fn make_room(bytes: &mut Vec<u8>, start: usize, extra: usize) -> Result<usize, A
     ensures room { OnOk result (vec_len bytes.new + extra ≤ vec_capacity bytes.new) }
     ensures fits { vec_len bytes.old - start + extra ≤ vec_capacity bytes.old → IsOk result × (vec_capacity bytes.new ≡ vec_capacity bytes.old) }
     ensures bounded { vec_capacity bytes.new ≤ max (vec_capacity bytes.old) (vec_len bytes.old - start + extra + 8192) }
+    ensures grows { vec_capacity bytes.old ≤ vec_capacity bytes.new }
     ensures unchanged { OnErr result (bytes.new.items ≡ bytes.old.items) }
 {
     if extra <= bytes.capacity() - bytes.len() {
@@ -73,16 +78,16 @@ fn make_room(bytes: &mut Vec<u8>, start: usize, extra: usize) -> Result<usize, A
 }
 
 impl LineCutter {
-    ghost use Rattle.std.specs.Prelude.{◌≡◌, ◌+◌, ◌<◌, ◌^◌, ◌++◌, [], IfOk, OnOk, OnErr};
+    ghost use Rattle.std.specs.Prelude.{◌≡◌, ◌+◌, ◌<◌, ◌≤◌, ◌^◌, ◌++◌, [], length, IfOk, IsOk, OnOk, OnErr};
     ghost use Rattle.qd_line.specs.Held.{Held};
-    ghost use Rattle.qd_line.specs.Cutter.{Answers, Past, StandsFor, nothing, with_fed, with_answer};
+    ghost use Rattle.qd_line.specs.Cutter.{Answers, Past, StandsFor, TellsHungry, nothing, with_fed, with_answer};
 
     /// A cutter to which nothing was fed.
     pub fn new(alloc: Global) -> Result<LineCutter, NoMemory>
         ensures empty { IfOk result (λ c. c ≡ record { text = []; left = []; line = 0 }) }
         ensures stands { IfOk result (λ c. StandsFor c nothing) }
     {
-        let bytes = Vec::with_capacity(alloc, 4 * MOST)?;
+        let bytes = Vec::with_capacity(alloc, ROOM)?;
         Ok(LineCutter {
             bytes,
             start: 0,
@@ -93,9 +98,11 @@ impl LineCutter {
         })
     }
 
-    /// Takes a piece in. The line given last is told no more.
+    /// Takes a piece in. The line given last is told no more. Memory is wanted only where what is left and the piece have
+    /// more than 4096 and 65536 bytes.
     pub fn feed(&mut self, piece: &[u8]) -> Result<(), NoMemory>
         ensures fed { OnOk result (self.new ≡ record { text = []; left = self.old.left ++ piece.now; line = self.old.line }) }
+        ensures fits { length self.old.left + length piece.now ≤ 69632 → IsOk result }
         ensures unchanged { OnErr result (self.new ≡ self.old) }
         ensures stands { OnOk result ((past : Past) → StandsFor self.old past → StandsFor self.new (with_fed past piece.now)) }
     {
@@ -134,6 +141,21 @@ impl LineCutter {
                 }
             }
         }
+    }
+
+    /// Whether more bytes are wanted: neither a line nor a too long one comes next. What is searched here is not searched
+    /// again by [`LineCutter::next_line`].
+    pub fn is_hungry(&mut self) -> bool
+        ensures tells { TellsHungry result self.old.left }
+        ensures same { self.new ≡ self.old }
+    {
+        let left = &self.bytes[self.start..];
+        if let Some(at) = feed_at(left, self.searched) {
+            self.searched = at;
+            return false;
+        }
+        self.searched = left.len().min(MOST + 1);
+        self.searched <= MOST
     }
 
     /// The bytes of the line given last, without LF and without a CR before it; none once more was fed or asked.

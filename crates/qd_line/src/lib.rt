@@ -13,8 +13,6 @@
 mod cutter;
 mod finding;
 mod laws;
-#[cfg(test)]
-mod tests;
 
 pub use cutter::{LineCutter, Next, NoMemory};
 pub use laws::{

@@ -16,6 +16,7 @@ mod out_buffer;
 mod plan;
 mod real;
 mod real_files;
+mod retrying;
 mod sink;
 mod source;
 
@@ -28,6 +29,3 @@ pub use real::{Reading, Writing};
 pub use real_files::RealFiles;
 pub use sink::{Sink, Write, write_all};
 pub use source::{Read, Source};
-
-#[cfg(test)]
-mod tests;

@@ -10,7 +10,5 @@
 
 mod links;
 mod queue;
-#[cfg(test)]
-mod tests;
 
 pub use queue::PendQueue;

@@ -1,6 +1,6 @@
 //! The queue.
 
-ghost use Rattle.std.specs.Prelude.{◌≡◌, ◌<◌, ◌≤◌, ◌++◌, ◌∷◌, [], false, max, OnOk, OnErr, IfOk};
+ghost use Rattle.std.specs.Prelude.{◌≡◌, ◌<◌, ◌≤◌, ◌++◌, ◌∷◌, [], false, max, IsOk, OnOk, OnErr, IfOk};
 ghost use Rattle.qd_pend.specs.Slots.{has, without, list_is_empty, first_in, rest_of, next_in, EachOnce, EachBelow};
 ghost use Rattle.qd_pend.specs.Linked.{slot_of};
 
@@ -37,11 +37,12 @@ impl PendQueue {
         Ok(PendQueue { links })
     }
 
-    /// Makes room for the slot numbers below `slots`. The list stays, whatever the answer.
+    /// Makes room for the slot numbers below `slots`. The list stays, whatever the answer. Memory is wanted only where there is too little.
     pub fn reserve(&mut self, slots: u32) -> Result<(), AllocError>
         ensures list { self.new.list ≡ self.old.list }
         ensures ok { OnOk result (self.new.slots ≡ max self.old.slots slots) }
         ensures err { OnErr result (self.new.slots ≡ self.old.slots) }
+        ensures fits { slots ≤ self.old.slots → IsOk result }
     {
         let len = self.links.len();
         let wanted = slots as usize + 1;

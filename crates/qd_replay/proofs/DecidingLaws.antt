@@ -130,7 +130,8 @@ decided_cause : (set : Setting) (end : RunEnd) (o w : Outside) (text : List ℕ)
     → IsBegun set p rest later done logs out o w → Took (Some text) w.left p.taken → NoFault o.reads w.reads o.writes w.writes
     → IsCaused end set p rest later done logs o w → (end ≡ ends.Done) ⊎ (end ≡ ends.NoMemory)
 decided_cause set end o w text s p rest later done logs out b took n (inl i) = decided_item set end o w text s p rest later done logs out b took n i
-decided_cause set end o w text s p rest later done logs out b took n (inr t) = decided_text set end o w text s p rest later b.bytes took n t
+decided_cause set end o w text s p rest later done logs out b took n (inr (inl t)) = decided_text set end o w text s p rest later b.bytes took n t
+decided_cause set end o w text s p rest later done logs out b took n (inr (inr t)) = absurd (n.1 t.rose)
 
 same_end : (end reached : RunEnd) → end ≡ reached → (reached ≡ ends.Done) ⊎ (reached ≡ ends.NoMemory) → (end ≡ ends.Done) ⊎ (end ≡ ends.NoMemory)
 same_end end reached e (inl d) = inl (e ∙ d)

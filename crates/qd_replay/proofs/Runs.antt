@@ -1,25 +1,29 @@
 -- A run goes from item to item, and ends.
-use Rattle.std.proofs.Common.{ℕ, ◌≡◌, ◌+◌, ◌<◌, ◌≤◌, inl, inr, Bool, true, false, nat_eq, Option, None, List, [], ◌∷◌, ◌++◌, length, refl, sym, ◌∙◌, ap, append_assoc, length-append, arith, cond}
+use Rattle.std.proofs.Common.{ℕ, ◌≡◌, ◌+◌, ◌<◌, ◌≤◌, inl, inr, Bool, true, false, nat_eq, Option, Some, None, List, [], ◌∷◌, ◌++◌, length, refl, sym, ◌∙◌, ap, append_assoc, length-append, arith, cond}
 use Rattle.std.proofs.lemmas.List.{append-nil}
 use Rattle.std.proofs.lemmas.Bool.{eqb-false}
 use Rattle.qd_grammar.specs.declared.item.Item.{Item}
 use Rattle.qd_grammar.specs.declared.item.Item.TheVariants as items
 use Rattle.qd_grammar.specs.declared.item.Message.{Message}
+use Rattle.qd_grammar.specs.declared.item.Mode.{Mode}
 use Rattle.qd_grammar.specs.declared.item.Mode.TheVariants.{File}
 use Rattle.qd_items.specs.declared.ends.RunEnd.{RunEnd}
 use Rattle.qd_items.specs.declared.ends.RunEnd.TheVariants as ends
 use Rattle.qd_items.specs.declared.ends.TextEnd.{TextEnd}
 use Rattle.qd_items.specs.declared.ends.TextEnd.TheVariants as texts
+use Rattle.qd_items.specs.declared.items.NextItem.{NextItem}
 use Rattle.qd_items.specs.declared.items.NextItem.TheVariants as nexts
 use Rattle.qd_items.specs.Ends.{ComesNext, last_items}
 use Rattle.qd_items.specs.Judging.{Numbered, items_of, stop_of}
 use Rattle.qd_items.specs.Judging.Stop.{Open}
 use Rattle.qd_items.specs.Runs.{run_end}
 use Rattle.qd_items.specs.Standing.{Kept, Past, IsTaken, IsRead, nothing, opening}
-use Rattle.qd_items.proofs.StepLaws.{opening_read}
+use Rattle.qd_items.specs.Steps.{Steps, WillRead}
+use Rattle.qd_items.proofs.StepLaws.{comes_next, none_yet, opening_read, same_faults, went_on}
 use Rattle.qd_outside.specs.Reading.{Took}
+use Rattle.qd_outside.specs.Buffering.{Drains, Prints}
 use Rattle.qd_outside.specs.Writing.{IsWritten, IsCutShort}
-use Rattle.qd_outside.proofs.Streams.{Gained-none, Gained-more, Took-none}
+use Rattle.qd_outside.proofs.Streams.{Gained-none, Gained-more, Took-none, cut_more}
 use Rattle.qd_scheme.specs.declared.defs.RecordDef.{RecordDef}
 use Rattle.qd_scheme.specs.declared.key.Event.{Event}
 use Rattle.qd_scheme.specs.declared.key.Key.{Key}
@@ -36,7 +40,7 @@ use Rattle.qd_replay.specs.Running.{Logs, Stand, no_logs}
 use Rattle.qd_replay.specs.Scripts.{Script, Group, start, size, plain_sub, no_group, with_sub, with_key, with_record, with_item, with_event, is_full, is_adding, is_streaming, group_with, kind_of, after as after_item, after_kind, led_by, script_of, acts_with, acts_of, AreOpen}
 use Rattle.qd_replay.specs.Settings.{Caps, Setting}
 use Rattle.qd_replay.specs.Steps.{Kept as EngineKept, Sunk, IsShown, IsAt, Halts, Hears, Stops, is_write_fault, ToldBy}
-use Rattle.qd_replay.proofs.Halts.{shown_cut}
+use Rattle.qd_replay.proofs.Halts.{shown_cut, shown_more}
 
 -- a body line adds one line at most
 sub_few : (sub : Sub) (g : Group) → size (with_sub sub g) ≤ size g + 1
@@ -209,7 +213,7 @@ early_end set o k new e s end was now before after written writes run mode comes
       logs = run.at.has.logs;
       out = run.at.out;
       begun = record { bytes = here.bytes; took = here.took; acts = ap acts_of these; ran = run.at.has.ran; legal = run.at.has.legal };
-      cause = inr (record { text_end = end; end_is = refl; early = early; are_open = rw these run.are_open; all_done = refl; cause = cause });
+      cause = inr (inl (record { text_end = end; end_is = refl; early = early; are_open = rw these run.are_open; all_done = refl; cause = cause }));
       told = rw (no_write_fault end) run.at.shown;
     }
 
@@ -250,9 +254,8 @@ lasted set o k new e f s texts.ReadFault result was now before after written nex
 lasted set o k new e f s texts.NoMemory result was now before after written next writes faults run mode comes h = lasted_early set o k new e f s texts.NoMemory result was now before after written next writes faults run mode comes (λ q. cc) (λ line ns. refl) h
 
 -- nothing was begun for want of memory
-pub not_begun : (set : Setting) (o : Outside) → Ends set ends.NoMemory o o
+pub not_begun : (set : Setting) (o : Outside) → IsEnded set ends.NoMemory o [] o
 not_begun set o = record {
-  reached = ends.NoMemory;
   past = nothing;
   rest = [];
   later = [];
@@ -260,10 +263,82 @@ not_begun set o = record {
   logs = no_logs;
   out = [];
   begun = record { bytes = (opening_read File set.defs o.left).stands.bytes; took = Took-none o.left; acts = refl; ran = (refl, refl); legal = record { ticker = tt; stream = tt; history = tt } };
-  cause = inr (record { text_end = texts.NoMemory; end_is = refl; early = λ q. cc; are_open = tt; all_done = refl; cause = (refl, inl refl, refl) });
-  last = inl refl;
-  wrote = inl (record { gained = Gained-none o.written; same = refl });
+  cause = inr (inl (record { text_end = texts.NoMemory; end_is = refl; early = λ q. cc; are_open = tt; all_done = refl; cause = (refl, refl, refl) }));
+  told = record { part = []; gained = Gained-none o.written; whole = refl; same = refl };
 }
+
+-- nothing is let go
+pub nothing_let_go : (held : List ℕ) (was : Option (List ℕ)) (before : ℕ) → Prints true [] held held was was before before
+nothing_let_go held was before = ([], append-nil held, record { gained = Gained-none was; same = refl })
+
+-- all that was held back is written, or a write failed
+pub drained : (b : Bool) (old new : List ℕ) (was now : Option (List ℕ)) (flushed : Bool) (before after : ℕ) → Drains b old new was now flushed before after → Prints b [] old new was now before after
+drained true old new was now flushed before after d = (old, ap (λ (l : List ℕ). old ++ l) (sym d.0), d.1)
+drained false old new was now flushed before after c = cut_more old [] was now before after c
+
+-- a step of the reader tells what a call that goes on to an item or the end tells
+pub told_step : (defs : List RecordDef) (k new : Kept) (was now : Option (List ℕ)) (before after : ℕ) (next : NextItem) → new.mode ≡ k.mode → Steps defs k (Some next) new was now before after
+    → (from : Option (List ℕ)) (p : Past) → IsRead defs from k p was → ComesNext defs from p next new now before after
+told_step defs k new was now before after next mode s = λ from p r. comes_next defs from p k new was now before after next mode (none_yet defs from p k was r) s
+
+-- what is alike in a mode that is that of a file is alike in a file
+file_alike : (mode : Mode) (defs : List RecordDef) (a b : List (List ℕ)) → mode ≡ File → items_of mode defs a ≡ items_of mode defs b → items_of File defs a ≡ items_of File defs b
+file_alike mode defs a b file alike = rw file at alike
+
+-- a step that gives nothing to hear
+pub step_went : (set : Setting) (o : Outside) (k new : Kept) (e : EngineKept) (s : Stripes) (was now : Option (List ℕ)) (before after : ℕ) (written : Option (List ℕ)) (writes : ℕ)
+    → IsRunning set o k e s (record { left = was; reads = before; written = written; writes = writes }) → new.mode ≡ k.mode → Steps set.defs k None new was now before after
+    → IsRunning set o new e s (record { left = now; reads = after; written = written; writes = writes })
+step_went set o k new e s was now before after written writes run mode step =
+    let n = went_on set.defs o.left run.past k new was now before after (none_yet set.defs o.left run.past k was run.read) step in
+    let file : new.mode ≡ File = mode ∙ run.mode in
+    let these : items_of File set.defs n.past.lines ≡ items_of File set.defs run.past.lines = file_alike new.mode set.defs n.past.lines run.past.lines file n.same in
+    record {
+      past = n.past;
+      read = n.read;
+      mode = file;
+      script = run.script ∙ sym (ap script_of these);
+      are_open = rw these run.are_open;
+      at = rw these run.at;
+      same = same_faults set.defs k new was now before after step ∙ run.same;
+    }
+
+-- what was held back is written before a read
+pub let_went : (set : Setting) (o : Outside) (k l : Kept) (e f : EngineKept) (s : Stripes) (left : Option (List ℕ)) (reads : ℕ) (was now : Option (List ℕ)) (before after : ℕ)
+    → IsRunning set o k e s (record { left = left; reads = reads; written = was; writes = before }) → l ≡ k → f.script ≡ e.script → Prints true [] e.held f.held was now before after
+    → IsRunning set o l f s (record { left = left; reads = reads; written = now; writes = after })
+let_went set o k l e f s left reads was now before after run same script p = rw same (record {
+  past = run.past;
+  read = run.read;
+  mode = run.mode;
+  script = script ∙ run.script;
+  are_open = run.are_open;
+  at = record {
+    out = run.at.out;
+    has = run.at.has;
+    shown = rw (append-nil run.at.out) at (shown_more (sunk o) (record { written = was; faults = before }) (record { written = now; faults = after }) run.at.out e.held [] f.held run.at.shown p);
+  };
+  same = run.same;
+})
+
+-- or a write of it failed, and the run ended
+pub let_short : (set : Setting) (o : Outside) (k : Kept) (e f : EngineKept) (s : Stripes) (left : Option (List ℕ)) (reads : ℕ) (was now : Option (List ℕ)) (before after : ℕ)
+    → IsRunning set o k e s (record { left = left; reads = reads; written = was; writes = before }) → WillRead k → Prints false [] e.held f.held was now before after
+    → IsEnded set ends.WriteFault o f.held (record { left = left; reads = reads; written = now; writes = after })
+let_short set o k e f s left reads was now before after run hungry p =
+    let cut = rw (append-nil run.at.out) at (shown_cut (sunk o) (record { written = was; faults = before }) (record { written = now; faults = after }) run.at.out e.held [] run.at.shown p) in
+    let none : stop_of File set.defs run.past.lines ≡ Open = rw run.mode at run.read.stands.is_open in
+    record {
+      past = run.past;
+      rest = k.left;
+      later = [];
+      done = acts_of (items_of File set.defs run.past.lines);
+      logs = run.at.has.logs;
+      out = run.at.out;
+      begun = record { bytes = run.read.stands.bytes; took = run.read.took; acts = refl; ran = run.at.has.ran; legal = run.at.has.legal };
+      cause = inr (inr (record { end_is = refl; are_open = run.are_open; unended = (none, hungry.hungry); all_done = refl; rose = cut.rose; reads = run.same }));
+      told = cut;
+    }
 
 is_fault : (end : RunEnd) → is_write_fault end ≡ true → end ≡ ends.WriteFault
 is_fault ends.WriteFault h = refl
@@ -311,7 +386,8 @@ other_cause end set p rest later done logs o w now after h (inl i) = inl (record
   cause = other_stop end set.caps (script_of i.before).message i.last.item i.last.line later logs o.writes w.writes after h i.cause;
   reads = i.reads;
 })
-other_cause end set p rest later done logs o w now after h (inr t) = inr (record { text_end = t.text_end; end_is = t.end_is; early = t.early; are_open = t.are_open; all_done = t.all_done; cause = t.cause })
+other_cause end set p rest later done logs o w now after h (inr (inl t)) = inr (inl (record { text_end = t.text_end; end_is = t.end_is; early = t.early; are_open = t.are_open; all_done = t.all_done; cause = t.cause }))
+other_cause end set p rest later done logs o w now after h (inr (inr t)) = let fault : true ≡ false = ap is_write_fault (sym t.end_is) ∙ h in absurd (cc)
 
 -- all that was shown is written
 all_written : (o w : Sunk) (out held : List ℕ) (now : Option (List ℕ)) (after : ℕ) → IsShown o w out held → IsWritten held w.written now w.faults after → IsWritten out o.written now o.faults after
@@ -329,6 +405,25 @@ told_cut end o w out held h t = let x = rw h at t in x
 
 told_shown : (end : RunEnd) (o w : Sunk) (out held : List ℕ) → is_write_fault end ≡ false → ToldBy (is_write_fault end) o w out held → IsShown o w out held
 told_shown end o w out held h t = let x = rw h at t in x
+
+flushed_so : (end : RunEnd) (flushed : Bool) → flushed ≡ true → IsFlushed end flushed
+flushed_so ends.WriteFault flushed h = tt
+flushed_so ends.Done flushed h = h
+flushed_so (ends.CutOff n) flushed h = h
+flushed_so (ends.Bad b) flushed h = h
+flushed_so (ends.LineTooLong n) flushed h = h
+flushed_so (ends.BadStep n) flushed h = h
+flushed_so (ends.Refused n limit) flushed h = h
+flushed_so ends.TooMuch flushed h = h
+flushed_so ends.ReadFault flushed h = h
+flushed_so ends.Spent flushed h = h
+flushed_so ends.NoMemory flushed h = h
+
+-- the sink is flushed at the end
+pub flushed_at : (end last : RunEnd) (held : List ℕ) (was now : Option (List ℕ)) (flushed : Bool) (before after : ℕ) → Finishes end last held was now flushed before after → IsFlushed last flushed
+flushed_at end last held was now flushed before after (inl f) = rw (f.1 ∙ is_fault end f.0) tt
+flushed_at end last held was now flushed before after (inr (inl f)) = flushed_so last flushed f.2
+flushed_at end last held was now flushed before after (inr (inr f)) = rw f.1 tt
 
 -- the run ended, and what was held back is written
 pub record IsOver (set : Setting) (last : RunEnd) (o w : Outside) (flushed : Bool) : Type 0 where
@@ -354,7 +449,7 @@ over_fault set end last o w held now flushed after e f l n a =
         last = inl l;
         wrote = inr (fault, cut);
       };
-      is_flushed = inr (inl fault);
+      is_flushed = rw fault tt;
     })
 
 over_drained : (set : Setting) (end last : RunEnd) (o w : Outside) (held : List ℕ) (now : Option (List ℕ)) (flushed : Bool) (after : ℕ)
@@ -373,7 +468,7 @@ over_drained set end last o w held now flushed after e f l fl d = record {
     last = inl l;
     wrote = inl (all_written (sunk o) (sunk w) e.out held now after (told_shown end (sunk o) (sunk w) e.out held f e.told) d);
   };
-  is_flushed = inl fl;
+  is_flushed = flushed_so last flushed fl;
 }
 
 over_cut : (set : Setting) (end last : RunEnd) (o w : Outside) (held : List ℕ) (now : Option (List ℕ)) (flushed : Bool) (after : ℕ)
@@ -394,7 +489,7 @@ over_cut set end last o w held now flushed after e f l c =
         last = inr (l, cut.rose);
         wrote = inr (l, cut);
       };
-      is_flushed = inr (inl l);
+      is_flushed = rw l tt;
     }
 
 pub over : (set : Setting) (end last : RunEnd) (o w : Outside) (held : List ℕ) (now : Option (List ℕ)) (flushed : Bool) (after : ℕ)

@@ -3,12 +3,13 @@ use Rattle.std.specs.Prelude.{ℕ, ◌≡◌, ◌⊎◌, Bool, true, false, if�
 use Rattle.qd_grammar.specs.declared.item.Item.TheVariants as items
 use Rattle.qd_grammar.specs.declared.item.Mode.TheVariants.{File}
 use Rattle.qd_items.specs.declared.ends.RunEnd.{RunEnd}
-use Rattle.qd_items.specs.declared.ends.RunEnd.TheVariants.{WriteFault, NoMemory}
+use Rattle.qd_items.specs.declared.ends.RunEnd.TheVariants.{WriteFault}
 use Rattle.qd_items.specs.declared.ends.TextEnd.{TextEnd}
 use Rattle.qd_items.specs.declared.ends.TextEnd.TheVariants as texts
-use Rattle.qd_items.specs.Ends.{Cause}
+use Rattle.qd_items.specs.Ends.{Cause, IsUnended}
 use Rattle.qd_items.specs.Judging.{Numbered, items_of, Stop, stop_of, is_end}
 use Rattle.qd_items.specs.Judging.Stop.{Open, AtEnd}
+pub use Rattle.qd_items.specs.Runs.{IsFlushed}
 use Rattle.qd_items.specs.Runs.{run_end}
 use Rattle.qd_items.specs.Standing.{Kept, Past, IsTaken, IsRead}
 use Rattle.qd_outside.specs.Causes.{Rose}
@@ -58,11 +59,21 @@ pub record IsOfText (end : RunEnd) (items : List Numbered) (count : ℕ) (stop :
   pub all_done : later ≡ []
   pub cause : Cause text_end stop count rest taken w.left o.reads w.reads
 
+-- a write failed before a read: the script is open, all that the lines lead to was done, and no whole line is left
+pub record IsOfWriting (end : RunEnd) (items : List Numbered) (stop : Stop) (later : List Act) (rest : List ℕ) (o w : Outside) : Type 0 where
+  pub end_is : end ≡ WriteFault
+  pub are_open : AreOpen items
+  pub unended : IsUnended stop rest
+  pub all_done : later ≡ []
+  pub rose : Rose o.writes w.writes
+  pub reads : w.reads ≡ o.reads
+
 -- the cause of an end, by the bytes taken, their lines, and what these lead to
 abbrev pub IsCaused : RunEnd → Setting → Past → List ℕ → List Act → List Act → Logs → Outside → Outside → Type 0
 IsCaused end set p rest later done logs o w =
     IsOfItem end set.caps (items_of File set.defs p.lines) (length p.lines) (stop_of File set.defs p.lines) later done logs o w
-    ⊎ IsOfText end (items_of File set.defs p.lines) (length p.lines) (stop_of File set.defs p.lines) later rest (length p.taken) o w
+    ⊎ (IsOfText end (items_of File set.defs p.lines) (length p.lines) (stop_of File set.defs p.lines) later rest (length p.taken) o w
+    ⊎ IsOfWriting end (items_of File set.defs p.lines) (stop_of File set.defs p.lines) later rest o w)
 
 -- what a run did until it ended: the bytes taken are lines and a rest; of what the lines lead to, the acts `done` were done, once and in order, and the acts `later` were not
 pub record IsBegun (set : Setting) (p : Past) (rest : List ℕ) (later done : List Act) (logs : Logs) (out : List ℕ) (o w : Outside) : Type 0 where
@@ -101,10 +112,6 @@ pub record Ends (set : Setting) (end : RunEnd) (o w : Outside) : Type 0 where
   pub cause : IsCaused reached set past rest later done logs o w
   pub last : (end ≡ reached) ⊎ ((end ≡ WriteFault) × Rose o.writes w.writes)
   pub wrote : Wrote end out o w
-
--- where nothing failed, the sink is flushed
-abbrev pub IsFlushed : RunEnd → Bool → Type 0
-IsFlushed end flushed = (flushed ≡ true) ⊎ ((end ≡ WriteFault) ⊎ (end ≡ NoMemory))
 
 -- what is held back is written at the end, unless a write failed before
 abbrev pub Finishes : RunEnd → RunEnd → List ℕ → Option (List ℕ) → Option (List ℕ) → Bool → ℕ → ℕ → Type 0

@@ -297,7 +297,8 @@ impl Engine {
 
     /// Writes all that was printed.
     pub fn drain<K: Sink>(&mut self, sink: &mut K) -> bool
-        ensures { Drains result self.old.held self.new.held (K.written sink.old) (K.written sink.new) (K.flushed sink.new) (K.faults sink.old) (K.faults sink.new) }
+        ensures script { self.new.script ≡ self.old.script }
+        ensures drains { Drains result self.old.held self.new.held (K.written sink.old) (K.written sink.new) (K.flushed sink.new) (K.faults sink.old) (K.faults sink.new) }
     {
         self.output.drain(sink)
     }

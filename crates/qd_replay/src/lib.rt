@@ -19,7 +19,4 @@ mod output;
 mod running;
 mod stripes;
 
-pub use running::replay;
-
-#[cfg(test)]
-mod tests;
+pub use running::{replay, replay_seeded};

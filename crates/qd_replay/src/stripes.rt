@@ -87,15 +87,15 @@ pub struct Stripes {
 
 impl Stripes {
     /// Without a call. At most `cap` items wait for an agent of the stream, and at most `hcap` events are owed to one of the history.
-    pub fn new(alloc: Global, cap: u16, hcap: u16) -> Result<Stripes, AllocError>
+    pub fn new(alloc: Global, cap: u16, hcap: u16, seed: u64) -> Result<Stripes, AllocError>
         requires { (1 ≤ hcap) × (hcap ≤ 4096) }
         ensures stand { IfOk result (λ s. Stand (caps_of s) s no_logs) }
         ensures caps { IfOk result (λ s. caps_of s ≡ record { cap = cap; hcap = hcap }) }
     {
         Ok(Stripes {
-            ticker: TickerStripe::new(alloc)?,
-            stream: StreamStripe::new(alloc, cap)?,
-            history: HistoryStripe::new(alloc, hcap)?,
+            ticker: TickerStripe::with_seed(alloc, seed)?,
+            stream: StreamStripe::with_seed(alloc, cap, seed)?,
+            history: HistoryStripe::with_seed(alloc, hcap, seed)?,
         })
     }
 

@@ -16,12 +16,18 @@ module _ {O R : Type 0} where
     pub mine : p.mine ≡ []
     pub looked : p.looked ≡ []
 
-  -- q was split off from p: it has another number, has seen as much, and made no call
+  -- what holds of every pass: what it has seen is legal, and its calls are all that this has of its number
+  pub record IsSound (legal : Terms → List (Entry O R) → Type 0) (p : Pass O R) : Type 0 where
+    pub is_legal : legal p.terms p.seen
+    pub own : calls_of p.number p.seen ≡ p.mine
+
+  -- q was split off from p: it has a number that no call seen so far has, has seen as much, and made no call
   pub record IsChild (p q : Pass O R) : Type 0 where
     pub home : q.home ≡ p.home
     pub terms : q.terms ≡ p.terms
     pub start : q.start ≡ p.start
     pub number : q.number ≢ p.number
+    pub unseen : calls_of q.number p.seen ≡ []
     pub seen : q.seen ≡ p.seen
     pub mine : q.mine ≡ []
     pub looked : q.looked ≡ []

@@ -7,8 +7,6 @@
 mod crossing;
 mod own;
 mod row;
-#[cfg(test)]
-mod tests;
 
 pub use own::OwnRow;
 pub use row::{Row, RowPass};

@@ -3,7 +3,7 @@
 ghost use Rattle.std.specs.Prelude.{◌≡◌, ◌<◌, ℕ, [], Some, IfOk, OnOk, OnErr, length, slice_get};
 ghost use Rattle.std.specs.List.{AllZip};
 ghost use Rattle.qd_gate.specs.Passes.{Pass};
-ghost use Rattle.qd_row.specs.Passes.{IsChild};
+ghost use Rattle.qd_row.specs.Passes.{IsChild, IsSound};
 ghost use Rattle.qd_row.specs.Rows.{homes, AddsFirst, TurnsAt, JoinsAll};
 
 use qd_gate::{Gate, GatePass, Machine, NoMemory, NoTurn};
@@ -41,6 +41,17 @@ impl<M: Machine> Model for RowPass<M> {
     ghost Value = { List (Pass M.Op M.Reply) };
 
     ghost view = { λ r. r.passes.items };
+}
+
+impl<M: Machine> RowPass<M> {
+    /// Tells what is true of each pass. It changes nothing.
+    pub fn look(&self)
+        ensures { (i : ℕ) (p : Pass M.Op M.Reply) → slice_get self.now i ≡ Some p → IsSound M.legal p }
+    {
+        for i in 0..self.passes.len() {
+            self.passes[i].look();
+        }
+    }
 }
 
 impl<M: Machine> Row<M> {

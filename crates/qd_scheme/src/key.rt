@@ -60,7 +60,7 @@ impl Eq for Key {
     ghost laws = { key_eq-equiv };
 }
 
-// The symbol's own bytes, without what pads them, and the record number.
+// The record number, as a word, since a hasher takes whole words at once; and the symbol's own bytes, without what pads them.
 impl Hash for Key {
     ghost use Rattle.qd_scheme.specs.Hashing.{key_input, key_input-Alike};
 
@@ -69,7 +69,7 @@ impl Hash for Key {
     ghost respects_eq = { key_input-Alike };
 
     fn hash<H: Hasher>(&self, state: &mut H) {
-        state.write_u32(self.rec);
+        state.write_u64(u64::from(self.rec));
         state.write(self.sym.bytes());
     }
 }

@@ -15,10 +15,9 @@ mod key;
 mod names;
 mod numbers;
 mod scheme;
+mod seeded;
 mod stripe;
 mod sym;
-#[cfg(test)]
-mod tests;
 
 pub use cells::Cells;
 pub use defs::{FieldDef, FieldKind, Fields, RecordDef};
@@ -27,6 +26,7 @@ pub use key::{Event, Key, Keyed, Record};
 pub use names::Name;
 pub use numbers::{AgentNo, WatcherNo};
 pub use scheme::Scheme;
+pub use seeded::SeededState;
 pub use stripe::stripe_of;
 pub use sym::Sym;
 

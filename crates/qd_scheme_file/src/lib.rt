@@ -9,6 +9,3 @@ mod reading;
 
 pub use no_scheme::NoScheme;
 pub use reading::read_scheme;
-
-#[cfg(test)]
-mod tests;

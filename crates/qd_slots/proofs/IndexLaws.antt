@@ -1,8 +1,7 @@
 -- The map of slots, the names and the free slots fit together after each call.
 use Rattle.std.proofs.Common.{◌≡◌, ◌≢◌, inl, inr, ℕ, ◌+◌, ◌-◌, ◌^◌, ◌<◌, ◌≤◌, Bool, true, false, nat_eq, ◌||◌, if◌then◌else◌, Option, Some, None, List, [], ◌∷◌, ◌++◌, length, max, slice_set, append_assoc, refl, ap, sym, ◌∙◌, arith, subst}
 use Rattle.std.proofs.lemmas.List.{length-set, get_or_past, length-append, append-nil}
-use Rattle.std.specs.declared.hash.FoldHasher.{FoldHasher}
-use Rattle.std.specs.declared.hash.BuildHasherDefault.{BuildHasherDefault}
+use Rattle.qd_scheme.specs.declared.seeded.SeededState.{SeededState}
 use Rattle.indexmap.specs.IndexMap.{IndexMap, get, spare}
 use Rattle.std.specs.Map.{lookup}
 use Rattle.qd_scheme.specs.declared.key.Key.{Key}
@@ -15,7 +14,7 @@ use Rattle.qd_slots.specs.Indexed.{IsIndexed}
 use Rattle.qd_slots.proofs.NameLaws.{at-same, at-other, slot_in-new, slot_in-other, slot_in-freed, slot_in-grown, found-new, found-freed, found-grown, below-or-not, name_at-grown, nones-more, named-more, named-less, named_in-grown}
 
 abbrev Slots : Type 0
-Slots = IndexMap Key ℕ (BuildHasherDefault FoldHasher)
+Slots = IndexMap Key ℕ SeededState
 
 indexed-none : (slots : Slots) → slots.entries ≡ [] → (let f : SlotList = record { list = []; slots = 0 } in IsIndexed slots [] f 0 0)
 unfolding EachOnce slot_from

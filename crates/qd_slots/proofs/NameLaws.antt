@@ -7,7 +7,7 @@ use Rattle.qd_scheme.specs.declared.key.Key.{Key}
 use Rattle.qd_scheme.specs.Keys.{key_eq}
 use Rattle.qd_scheme.proofs.KeyLaws.{key_eq-same, key_eq-true}
 use Rattle.qd_pend.proofs.ListLaws.{same, equal}
-use Rattle.qd_slots.specs.Names.{is_name, slot_from, slot_in, name_at, named_in, nones, IsFound}
+use Rattle.qd_slots.specs.Names.{NameList, is_name, slot_from, slot_in, name_at, named_in, nones, slots_with, IsFound}
 
 pub at-same : (names : List (Option Key)) (i : ℕ) (o : Option Key) → i < length names → name_at (slice_set names i o) i ≡ o
 at-same names i o h = get_or-set_same names i o None h
@@ -199,3 +199,25 @@ pub named_in-grown : (names : List (Option Key)) (n : ℕ) → named_in (names +
 named_in-grown [] n = named_in-nones n
 named_in-grown (None ∷ names) n = named_in-grown names n
 named_in-grown (Some k ∷ names) n = ap (λ ks. k ∷ ks) (named_in-grown names n)
+
+-- where there is room, no slots are added to name so many; else at most so many are
+pub slots_with-room : (n : NameList) (more : ℕ) → more ≤ n.room → slots_with n more ≡ length n.names
+unfolding slots_with
+slots_with-room n more h =
+    let go : (b : Bool) → nat_lt n.room more ≡ b → (if b then length n.names + more else length n.names) ≡ length n.names =
+    elim [ true ↦ λ e. absurd (grind (arith, nat_tests)) | false ↦ λ e. refl ] in
+    go (nat_lt n.room more) refl
+
+pub slots_with-more : (n : NameList) (more : ℕ) → n.room < more → slots_with n more ≡ length n.names + more
+unfolding slots_with
+slots_with-more n more h =
+    let go : (b : Bool) → nat_lt n.room more ≡ b → (if b then length n.names + more else length n.names) ≡ length n.names + more =
+    elim [ true ↦ λ e. refl | false ↦ λ e. absurd (grind (arith, nat_tests)) ] in
+    go (nat_lt n.room more) refl
+
+pub slots_with-least : (n : NameList) (more : ℕ) → length n.names ≤ slots_with n more
+unfolding slots_with
+slots_with-least n more =
+    let go : (b : Bool) → length n.names ≤ (if b then length n.names + more else length n.names) =
+    elim [ true ↦ omega arith | false ↦ omega arith ] in
+    go (nat_lt n.room more)

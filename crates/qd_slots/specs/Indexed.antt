@@ -1,7 +1,6 @@
 -- How the slots of keys are stored.
 use Rattle.std.specs.Prelude.{ℕ, ◌≡◌, ◌+◌, ◌≤◌, ◌<◌, ◌^◌, Option, List, length}
-use Rattle.std.specs.declared.hash.FoldHasher.{FoldHasher}
-use Rattle.std.specs.declared.hash.BuildHasherDefault.{BuildHasherDefault}
+use Rattle.qd_scheme.specs.declared.seeded.SeededState.{SeededState}
 use Rattle.indexmap.specs.IndexMap.{IndexMap, get, spare}
 use Rattle.qd_scheme.specs.declared.key.Key.{Key}
 use Rattle.qd_scheme.specs.Keys.{key_eq}
@@ -9,7 +8,7 @@ use Rattle.qd_pend.specs.Slots.{SlotList, EachOnce}
 use Rattle.qd_slots.specs.Names.{slot_in, named_in, IsFound, IsVacant}
 
 -- the map leads from each key to its slot, each slot has a key or is free, and what is free can be named
-pub record IsIndexed (slots : IndexMap Key ℕ (BuildHasherDefault FoldHasher)) (names : List (Option Key)) (free : SlotList) (free_count room : ℕ) : Type 0 where
+pub record IsIndexed (slots : IndexMap Key ℕ SeededState) (names : List (Option Key)) (free : SlotList) (free_count room : ℕ) : Type 0 where
   pub looked : (k : Key) → get key_eq slots k ≡ slot_in names k
   pub found : IsFound names
   pub vacant : IsVacant names free.list

@@ -1,5 +1,5 @@
 -- Which key has which slot.
-use Rattle.std.specs.Prelude.{ℕ, zero, suc, ◌≡◌, ◌<◌, ◌≤◌, ◌^◌, ◌++◌, Bool, true, false, if◌then◌else◌, Option, Some, None, List, [], ◌∷◌, ◌+◌, ◌-◌, length, max, slice_index_or}
+use Rattle.std.specs.Prelude.{ℕ, zero, suc, ◌≡◌, ◌<◌, ◌≤◌, ◌^◌, ◌++◌, Bool, true, false, if◌then◌else◌, nat_lt, Option, Some, None, List, [], ◌∷◌, ◌+◌, ◌-◌, length, max, slice_index_or}
 use Rattle.std.specs.List.{filter_map}
 use Rattle.qd_scheme.specs.declared.key.Key.{Key}
 use Rattle.qd_scheme.specs.Keys.{key_eq}
@@ -36,6 +36,10 @@ named_in names = filter_map (λ name. name) names
 unfoldable pub nones : ℕ → List (Option Key)
 nones zero = []
 nones (suc n) = None ∷ nones n
+
+-- a number above all slots once there is room to name this many keys
+unfoldable pub slots_with : NameList → ℕ → ℕ
+slots_with n more = if nat_lt n.room more then length n.names + more else length n.names
 
 -- each key is found at its slot, so no key has two
 abbrev pub IsFound : List (Option Key) → Type 0

@@ -1,6 +1,6 @@
 //! Which agents hold which slots.
 
-ghost use Rattle.std.specs.Prelude.{◌≡◌, ℕ, ◌+◌, ◌-◌, ◌<◌, ◌≤◌, ◌^◌, ◌∷◌, ◌++◌, [], true, length, replicate, Some, IfOk, OnOk, OnErr, drop, vec_len, vec_capacity, slice_set};
+ghost use Rattle.std.specs.Prelude.{◌≡◌, ℕ, ◌+◌, ◌-◌, ◌<◌, ◌≤◌, ◌^◌, ◌∷◌, ◌++◌, [], true, length, replicate, Some, IsOk, IfOk, OnOk, OnErr, drop, vec_len, vec_capacity, slice_set};
 ghost use Rattle.std.specs.List.{list_any};
 ghost use Rattle.qd_pend.specs.Slots.{has, first_in};
 ghost use Rattle.qd_sub.specs.Subscriptions.{least};
@@ -83,12 +83,14 @@ impl Holds {
         })
     }
 
-    /// Makes room for the slots below `slots`, and for the agent to subscribe to them. What agents have stays, whatever the answer.
+    /// Makes room for the slots below `slots`, and for the agent to subscribe to them. What agents have stays, whatever the answer. Memory
+    /// is wanted only where there is too little room.
     pub fn reserve(&mut self, agent: u8, slots: u32) -> Result<(), AllocError>
         requires { agent < 128 }
         ensures kept { IsRoomier self.old self.new }
         ensures cells { OnOk result (slots ≤ length self.new.cells) }
         ensures order { OnOk result (slots ≤ (order_at self.new.orders agent).slots) }
+        ensures fits { slots ≤ length self.old.cells → slots ≤ (order_at self.old.orders agent).slots → IsOk result }
     {
         reserve_order(&mut self.orders, agent, slots)?;
         reserve_cells(&mut self.cells, slots)
@@ -359,6 +361,7 @@ pub fn reserve_order(orders: &mut Vec<PendQueue>, agent: u8, slots: u32) -> Resu
     requires { agent < vec_len orders.old }
     ensures ok { OnOk result (orders.new.items ≡ slice_set orders.old.items agent (with_room (order_at orders.old.items agent) slots)) }
     ensures err { OnErr result (orders.new.items ≡ orders.old.items) }
+    ensures fits { slots ≤ (order_at orders.old.items agent).slots → IsOk result }
 {
     let order = &mut orders[agent as usize];
     order.reserve(slots)
@@ -367,6 +370,7 @@ pub fn reserve_order(orders: &mut Vec<PendQueue>, agent: u8, slots: u32) -> Resu
 fn reserve_cells(cells: &mut Vec<Cell>, slots: u32) -> Result<(), AllocError>
     ensures grown { (n : ℕ) × (cells.new.items ≡ cells.old.items ++ free_cells n) }
     ensures ok { OnOk result (slots ≤ length cells.new.items) }
+    ensures fits { slots ≤ length cells.old.items → IsOk result }
 {
     let len = cells.len();
     if slots as usize <= len {

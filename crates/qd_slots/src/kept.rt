@@ -1,6 +1,6 @@
 //! Which slots each agent keeps.
 
-ghost use Rattle.std.specs.Prelude.{◌≡◌, ◌<◌, ◌≤◌, ◌∷◌, ◌++◌, [], false, length, max, replicate, OnOk, IfOk, slice_set, vec_len};
+ghost use Rattle.std.specs.Prelude.{◌≡◌, ◌<◌, ◌≤◌, ◌∷◌, ◌++◌, [], false, length, max, replicate, IsOk, OnOk, IfOk, slice_set, vec_len};
 ghost use Rattle.qd_pend.specs.Slots.{has, first_in, EachOnce};
 ghost use Rattle.qd_slots.specs.Holds.{no_order, order_at, with_less, with_room};
 ghost use Rattle.qd_slots.specs.Kept.{with_more, KeepsRoom};
@@ -36,11 +36,13 @@ impl Kept {
         Ok(Kept { slots })
     }
 
-    /// Makes room for the agent to keep the slots below `slots`. What is kept stays, whatever the answer.
+    /// Makes room for the agent to keep the slots below `slots`. What is kept stays, whatever the answer. Memory is wanted only where there is
+    /// too little room.
     pub fn reserve(&mut self, agent: u8, slots: u32) -> Result<(), AllocError>
         requires { agent < 128 }
         ensures kept { KeepsRoom self.old self.new }
         ensures room { OnOk result (slots ≤ (order_at self.new agent).slots) }
+        ensures fits { slots ≤ (order_at self.old agent).slots → IsOk result }
     {
         reserve_order(&mut self.slots, agent, slots)
     }

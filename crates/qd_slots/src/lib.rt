@@ -7,8 +7,6 @@
 mod holds;
 mod kept;
 mod names;
-#[cfg(test)]
-mod tests;
 mod views;
 mod watchers;
 

@@ -1,15 +1,15 @@
 //! The slot numbers of keys.
 
-ghost use Rattle.std.specs.Prelude.{◌≡◌, ◌+◌, ◌∷◌, ◌<◌, ◌≤◌, ◌^◌, ◌-◌, ◌++◌, [], length, slice_set, if◌then◌else◌, Option, Some, None, OnOk, OnErr, IfOk, IfSome, max, vec_len, vec_capacity};
+ghost use Rattle.std.specs.Prelude.{◌≡◌, ◌+◌, ◌∷◌, ◌<◌, ◌≤◌, ◌^◌, ◌-◌, ◌++◌, [], length, slice_set, if◌then◌else◌, Option, Some, None, IsOk, OnOk, OnErr, IfOk, IfSome, max, vec_len, vec_capacity};
 ghost use Rattle.indexmap.specs.IndexMap.{get, spare};
 ghost use Rattle.qd_scheme.specs.declared.key.Key.{Key};
 ghost use Rattle.qd_scheme.specs.Keys.{key_eq};
 ghost use Rattle.qd_pend.specs.Slots.{EachOnce};
-ghost use Rattle.qd_slots.specs.Names.{slot_in, name_at, named_in, nones, IsFound, IsVacant, IsGrown, IsReady};
+ghost use Rattle.qd_slots.specs.Names.{slot_in, name_at, named_in, nones, slots_with, IsFound, IsVacant, IsGrown, IsReady};
 
 use indexmap::IndexMap;
 use qd_pend::PendQueue;
-use qd_scheme::Key;
+use qd_scheme::{Key, SeededState};
 use std::alloc::{AllocError, Global};
 use std::marker::Model;
 
@@ -19,7 +19,7 @@ use std::marker::Model;
 /// Only `new` and `reserve` take memory.
 #[derive(Drop)]
 pub struct Names {
-    slots: IndexMap<Key, u32>,
+    slots: IndexMap<Key, u32, SeededState>,
     names: Vec<Option<Key>>,
     free: PendQueue,
     // How many slots are free, and how many keys can be named without memory.
@@ -40,13 +40,20 @@ impl Model for Names {
 }
 
 impl Names {
-    /// No keys.
+    /// No keys, hashed with the seed 0.
     pub fn new(alloc: Global) -> Result<Names, AllocError>
+        ensures { IfOk result (λ n. n ≡ record { names = []; room = 0 }) }
+    {
+        Names::with_seed(alloc, 0)
+    }
+
+    /// No keys, hashed with a seed. No answer depends on it.
+    pub fn with_seed(alloc: Global, seed: u64) -> Result<Names, AllocError>
         ensures { IfOk result (λ n. n ≡ record { names = []; room = 0 }) }
     {
         let free = PendQueue::new(alloc)?;
         Ok(Names {
-            slots: IndexMap::new(alloc),
+            slots: IndexMap::with_hasher(alloc, SeededState::new(seed)),
             names: Vec::new(alloc),
             free,
             free_count: 0,
@@ -84,11 +91,28 @@ impl Names {
         self.room
     }
 
-    /// Makes room to name this many keys. After an error all is as before.
+    /// A number above all slots once there is room to name this many keys; none above 2^32.
+    pub fn slots_with(&self, more: u32) -> Option<u32>
+        ensures slots { IfSome result (λ slots. slots ≡ slots_with self.now more) }
+        ensures fits { more ≤ self.now.room → result ≡ Some (length self.now.names) }
+    {
+        let slots = self.slots();
+        if more <= self.room {
+            return Some(slots);
+        }
+        if more > u32::MAX - slots {
+            return None;
+        }
+        Some(slots + more)
+    }
+
+    /// Makes room to name this many keys. After an error all is as before. Memory is wanted only where there is too little room.
     pub fn reserve(&mut self, more: u32) -> Result<(), AllocError>
         ensures names { OnOk result (IsGrown self.old.names self.new.names) }
         ensures ok { OnOk result (more ≤ self.new.room) }
         ensures few { length self.new.names ≤ length self.old.names + more }
+        ensures slots { length self.new.names ≤ slots_with self.old more }
+        ensures fits { more ≤ self.old.room → IsOk result × (self.new ≡ self.old) }
         // There are never more slots than were needed at once.
         ensures small { length self.new.names ≤ max (length self.old.names) (length (named_in self.old.names) + more) }
         ensures kept { self.old.room ≤ self.new.room }
@@ -214,7 +238,7 @@ fn push_vacant(names: &mut Vec<Option<Key>>)
     let _ = names.push(None);
 }
 
-type Slots = IndexMap<Key, u32>;
+type Slots = IndexMap<Key, u32, SeededState>;
 
 fn set_slot(slots: &mut Slots, key: &Key, slot: u32)
     requires { 0 < spare slots.old }

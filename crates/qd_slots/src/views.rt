@@ -1,6 +1,6 @@
 //! What the watchers know.
 
-ghost use Rattle.std.specs.Prelude.{◌≡◌, ℕ, ◌+◌, ◌-◌, ◌<◌, ◌≤◌, ◌∷◌, ◌++◌, [], length, false, if◌then◌else◌, OnOk, IfOk, vec_len, vec_capacity, slice_set};
+ghost use Rattle.std.specs.Prelude.{◌≡◌, ℕ, ◌+◌, ◌-◌, ◌<◌, ◌≤◌, ◌∷◌, ◌++◌, [], length, false, if◌then◌else◌, IsOk, OnOk, IfOk, vec_len, vec_capacity, slice_set};
 ghost use Rattle.qd_sub.specs.Watching.{same_total};
 ghost use Rattle.qd_pend.specs.Slots.{has, first_in, next_in, EachOnce, EachBelow};
 ghost use Rattle.qd_slots.specs.Views.{no_view, no_views, view_at, view_after, view_differs, view_told, queued, queued_again, with_list, with_total, with_told, IsWider};
@@ -74,11 +74,12 @@ impl Watcher {
         })
     }
 
-    /// Makes room for the slots below `slots`. What is known stays, whatever the answer.
+    /// Makes room for the slots below `slots`. What is known stays, whatever the answer. Memory is wanted only where there is too little.
     pub fn reserve(&mut self, slots: u32) -> Result<(), AllocError>
         ensures kept { IsWider self.old self.new }
         ensures views { OnOk result (slots ≤ length self.new.views) }
         ensures queue { OnOk result (slots ≤ self.new.queue.slots) }
+        ensures fits { slots ≤ length self.old.views → slots ≤ self.old.queue.slots → IsOk result }
     {
         self.queue.reserve(slots)?;
         reserve_views(&mut self.views, slots)
@@ -178,6 +179,7 @@ fn set_view(views: &mut Vec<View>, slot: u32, view: View)
 fn reserve_views(views: &mut Vec<View>, slots: u32) -> Result<(), AllocError>
     ensures grown { (n : ℕ) × (views.new.items ≡ views.old.items ++ no_views n) }
     ensures ok { OnOk result (slots ≤ length views.new.items) }
+    ensures fits { slots ≤ length views.old.items → IsOk result }
 {
     let len = views.len();
     if slots as usize <= len {

@@ -1,6 +1,6 @@
 //! The eight watchers.
 
-ghost use Rattle.std.specs.Prelude.{◌≡◌, ◌≢◌, ℕ, ◌<◌, ◌≤◌, length, replicate, OnOk, IfOk, slice_set, vec_len, vec_capacity};
+ghost use Rattle.std.specs.Prelude.{◌≡◌, ◌≢◌, ℕ, ◌<◌, ◌≤◌, length, replicate, IsOk, OnOk, IfOk, slice_set, vec_len, vec_capacity};
 ghost use Rattle.std.specs.List.{list_any};
 ghost use Rattle.qd_pend.specs.Slots.{first_in, next_in};
 ghost use Rattle.qd_slots.specs.Views.{no_viewing, view_at, viewing_at, with_total, with_told, is_known_by, HasSlot, HasSlots, IsWider, EachWider, EachSaw};
@@ -35,10 +35,11 @@ impl Watchers {
         Ok(Watchers { watchers })
     }
 
-    /// Makes room for the slots below `slots`. What is known stays, whatever the answer.
+    /// Makes room for the slots below `slots`. What is known stays, whatever the answer. Memory is wanted only where there is too little.
     pub fn reserve(&mut self, slots: u32) -> Result<(), AllocError>
         ensures kept { EachWider self.old self.new }
         ensures ok { OnOk result (HasSlots slots self.new) }
+        ensures fits { HasSlots slots self.old → IsOk result }
     {
         reserve_all(&mut self.watchers, slots)
     }
@@ -108,6 +109,7 @@ fn reserve_all(watchers: &mut Vec<Watcher>, slots: u32) -> Result<(), AllocError
     requires { vec_len watchers.old ≡ 8 }
     ensures kept { EachWider watchers.old.items watchers.new.items }
     ensures ok { OnOk result (HasSlots slots watchers.new.items) }
+    ensures fits { HasSlots slots watchers.old.items → IsOk result }
 {
     for watcher in 0..8u8 {
         reserve_one(watchers, watcher, slots)?;
@@ -122,6 +124,7 @@ fn reserve_one(watchers: &mut Vec<Watcher>, watcher: u8, slots: u32) -> Result<(
     ensures wider { IsWider (viewing_at watchers.old.items watcher) (viewing_at watchers.new.items watcher) }
     ensures views { OnOk result (slots ≤ length (viewing_at watchers.new.items watcher).views) }
     ensures queue { OnOk result (slots ≤ (viewing_at watchers.new.items watcher).queue.slots) }
+    ensures fits { slots ≤ length (viewing_at watchers.old.items watcher).views → slots ≤ (viewing_at watchers.old.items watcher).queue.slots → IsOk result }
 {
     let one = &mut watchers[watcher as usize];
     one.reserve(slots)

@@ -11,3 +11,4 @@ pub mod Keyed
 pub mod Boxes
 pub mod Stripes
 pub mod Steps
+pub mod Laws

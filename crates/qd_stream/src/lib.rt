@@ -11,15 +11,10 @@
 
 mod boxes;
 mod item;
+mod laws;
 mod outbox;
 mod stripe;
 
 pub use item::StreamItem;
+pub use laws::few_wait;
 pub use stripe::StreamStripe;
-
-#[cfg(test)]
-mod plain;
-#[cfg(test)]
-mod random_tests;
-#[cfg(test)]
-mod tests;

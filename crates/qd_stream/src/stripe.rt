@@ -41,12 +41,20 @@ impl Model for StreamStripe {
 }
 
 impl StreamStripe {
-    /// A stripe without subscriptions, where at most `cap` items wait for an agent.
+    /// A stripe without subscriptions, where at most `cap` items wait for an agent. Keys are hashed with the seed 0.
     pub fn new(alloc: Global, cap: u16) -> Result<StreamStripe, NoMemory>
         ensures { IfOk result (λ s. Stands s [] × (s.boxes.cap ≡ cap)) }
     {
+        StreamStripe::with_seed(alloc, cap, 0)
+    }
+
+    /// A stripe without subscriptions, where at most `cap` items wait for an agent. Keys are hashed with a seed, on which no answer
+    /// depends.
+    pub fn with_seed(alloc: Global, cap: u16, seed: u64) -> Result<StreamStripe, NoMemory>
+        ensures { IfOk result (λ s. Stands s [] × (s.boxes.cap ≡ cap)) }
+    {
         Ok(StreamStripe {
-            table: SubTable::new(alloc)?,
+            table: SubTable::with_seed(alloc, seed)?,
             boxes: Boxes::new(alloc, cap)?,
         })
     }

@@ -14,6 +14,7 @@ pub mod JudgeLaws
 pub mod Shown
 pub mod StandChains
 pub mod KeyCalls
+mod BitLaws
 pub mod FreshLaws
 pub mod TableCounts
 pub mod StoreAdmits

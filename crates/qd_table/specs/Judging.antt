@@ -1,7 +1,6 @@
 -- How many keys of a list would be new, and what that leads to.
 use Rattle.std.specs.Prelude.{ℕ, suc, ◌≡◌, ◌+◌, ◌≤◌, Bool, false, ◌||◌, nat_lt, if◌then◌else◌, Option, Some, None, is_some, Result, Ok, Err, List, [], ◌∷◌}
-use Rattle.std.specs.declared.hash.FoldHasher.{FoldHasher}
-use Rattle.std.specs.declared.hash.BuildHasherDefault.{BuildHasherDefault}
+use Rattle.qd_scheme.specs.declared.seeded.SeededState.{SeededState}
 use Rattle.indexmap.specs.IndexSet.{IndexSet, spare}
 use Rattle.qd_scheme.specs.declared.key.Key.{Key}
 use Rattle.qd_scheme.specs.Keys.{key_eq}
@@ -38,6 +37,6 @@ unfoldable pub verdict_of : List (Option Key) → ℕ → Holdings → ℕ → L
 verdict_of names named holdings agent keys = verdict_for (named + fresh_count (has_slot names) keys) (holdings.pairs + fresh_count (holds_key names holdings.cells agent) keys)
 
 -- a set of no keys, with room for those of an Add
-pub record IsReady (seen : IndexSet Key (BuildHasherDefault FoldHasher)) : Type 0 where
+pub record IsReady (seen : IndexSet Key SeededState) : Type 0 where
   pub empty : seen.keys ≡ []
   pub room : 4096 ≤ spare seen

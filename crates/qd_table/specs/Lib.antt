@@ -4,3 +4,4 @@ pub mod Sound
 pub mod Standing
 pub mod Judging
 pub mod Stored
+pub mod Bits

@@ -1,8 +1,13 @@
 //! The calls of a table by keys.
 
 ghost use Rattle.std.specs.Prelude.{◌≡◌, ◌≤◌, ◌<◌, ℕ, true, false, not, length, Some, None, OnOk, OnErr, IfErr};
+ghost use Rattle.std.specs.Prelude.{Bool};
+ghost use Rattle.qd_scheme.specs.declared.key.Key.{Key};
+ghost use Rattle.qd_scheme.specs.declared.key.Record.{Record};
+ghost use Rattle.qd_sub.specs.Acts.{Moment};
 ghost use Rattle.qd_slots.specs.Holds.{is_subscribed, is_kept};
 ghost use Rattle.qd_table.specs.Tables.{slot_for, hold_for, limit_by, total_by, order_of, bits_from, bit_at, agent_bits, first_key, becomes_unwanted, room_for, fault_of};
+ghost use Rattle.qd_table.specs.Bits.{SaysSubscribed};
 ghost use Rattle.qd_table.specs.Steps.{IsSame, IsAdded, IsClosed, IsRemoved, IsLetGoBy, IsCause, SubscribesAll, EndsAll, LetsGo};
 
 use crate::table::{SubFault, SubTable};
@@ -79,7 +84,8 @@ impl SubTable {
 
     /// The agents that are subscribed to a key, one bit each, agent 0 in the lowest place.
     pub fn agents_of(&self, key: &Key) -> u128
-        ensures { result ≡ agent_bits self.now key.now }
+        ensures bits { result ≡ agent_bits self.now key.now }
+        ensures subscribed { (keeps : ℕ → Key → Bool) (now : Moment Record Record) → SaysSubscribed self.now key.now result keeps now }
     {
         match self.slot_of(key) {
             None => 0,

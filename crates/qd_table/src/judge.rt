@@ -9,7 +9,7 @@ ghost use Rattle.qd_table.specs.Judging.{has_slot, holds_key, fresh_count, seen_
 
 use crate::table::SubFault;
 use indexmap::IndexSet;
-use qd_scheme::Key;
+use qd_scheme::{Key, SeededState};
 use qd_slots::{Holds, Names};
 use qd_sub::Sub;
 
@@ -31,7 +31,7 @@ pub fn judge(
     names: &Names,
     named: u32,
     holds: &Holds,
-    seen: &mut IndexSet<Key>,
+    seen: &mut IndexSet<Key, SeededState>,
     agent: u8,
     subs: &[Sub],
 ) -> Result<(), SubFault>
@@ -70,7 +70,7 @@ fn verdict(keys: u32, pairs: u32) -> Result<(), SubFault>
 fn count_fresh(
     names: &Names,
     holds: &Holds,
-    seen: &mut IndexSet<Key>,
+    seen: &mut IndexSet<Key, SeededState>,
     agent: u8,
     subs: &[Sub],
 ) -> Fresh
@@ -94,7 +94,7 @@ fn count_fresh(
 fn count_key(
     names: &Names,
     holds: &Holds,
-    seen: &mut IndexSet<Key>,
+    seen: &mut IndexSet<Key, SeededState>,
     fresh: &mut Fresh,
     agent: u8,
     key: &Key,
@@ -128,7 +128,7 @@ fn one_unless(counted: bool) -> u32
 }
 
 /// Puts a key into the set that is not there.
-fn note(seen: &mut IndexSet<Key>, key: &Key)
+fn note(seen: &mut IndexSet<Key, SeededState>, key: &Key)
     requires room { 0 < spare seen.old }
     requires absent { has_key seen.old.keys key.now ≡ false }
     ensures seen { (q : Key) → has_key seen.new.keys q ≡ (key_eq q key.now || has_key seen.old.keys q) }

@@ -12,6 +12,3 @@ mod table;
 mod watching;
 
 pub use table::{SubFault, SubTable};
-
-#[cfg(test)]
-mod tests;

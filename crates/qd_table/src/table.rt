@@ -11,7 +11,7 @@ ghost use Rattle.qd_table.specs.Steps.{IsSame, IsSubscribed, IsEnded, IsLetGo, I
 use crate::judge::judge;
 use crate::parts::{free_unused, keep_if, reserve, slot_or_new};
 use indexmap::IndexSet;
-use qd_scheme::{AgentNo, Key, WatcherNo};
+use qd_scheme::{AgentNo, Key, SeededState, WatcherNo};
 use qd_slots::{Holds, Kept, Names, View, Watchers};
 use qd_sub::{Sub, Want};
 use std::alloc::{AllocError, Global};
@@ -44,7 +44,7 @@ pub struct SubTable {
     kept: Kept,
     watchers: Watchers,
     // Keys that an Add named so far; empty between calls.
-    seen: IndexSet<Key>,
+    seen: IndexSet<Key, SeededState>,
     // This agent can be subscribed so often without memory.
     agent: u8,
     room: u32,
@@ -63,15 +63,22 @@ impl Model for SubTable {
 }
 
 impl SubTable {
-    /// No subscriptions, and no watcher knows anything.
+    /// No subscriptions, and no watcher knows anything. Keys are hashed with the seed 0.
     pub fn new(alloc: Global) -> Result<SubTable, AllocError>
         ensures { IfOk result (λ s. s ≡ no_table) }
     {
-        let names = Names::new(alloc)?;
+        SubTable::with_seed(alloc, 0)
+    }
+
+    /// No subscriptions, and no watcher knows anything. Keys are hashed with a seed, on which no answer depends.
+    pub fn with_seed(alloc: Global, seed: u64) -> Result<SubTable, AllocError>
+        ensures { IfOk result (λ s. s ≡ no_table) }
+    {
+        let names = Names::with_seed(alloc, seed)?;
         let holds = Holds::new(alloc)?;
         let kept = Kept::new(alloc)?;
         let watchers = Watchers::new(alloc)?;
-        let seen = IndexSet::with_capacity(alloc, MOST_SUBS)?;
+        let seen = IndexSet::with_capacity_and_hasher(alloc, MOST_SUBS, SeededState::new(seed))?;
         Ok(SubTable {
             names,
             named: 0,

@@ -8,3 +8,4 @@ pub mod Judged
 pub mod Lengths
 pub mod Near
 pub mod SchemeFields
+mod SchemeRows

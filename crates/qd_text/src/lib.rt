@@ -24,6 +24,3 @@ pub use qd_grammar::{
 pub use reader::{BadLine, Reader};
 pub use scheme_reader::{SchemeEnd, SchemeReader};
 pub use write::write_item;
-
-#[cfg(test)]
-mod tests;

@@ -14,12 +14,3 @@ mod queues;
 mod stripe;
 
 pub use stripe::TickerStripe;
-
-#[cfg(test)]
-mod gate_tests;
-#[cfg(test)]
-mod plain;
-#[cfg(test)]
-mod random_tests;
-#[cfg(test)]
-mod tests;

@@ -47,11 +47,18 @@ impl Model for TickerStripe {
 }
 
 impl TickerStripe {
-    /// A stripe without subscriptions.
+    /// A stripe without subscriptions. Keys are hashed with the seed 0.
     pub fn new(alloc: Global) -> Result<TickerStripe, NoMemory>
         ensures { IfOk result (λ s. Stands s []) }
     {
-        let table = SubTable::new(alloc)?;
+        TickerStripe::with_seed(alloc, 0)
+    }
+
+    /// A stripe without subscriptions. Keys are hashed with a seed, on which no answer depends.
+    pub fn with_seed(alloc: Global, seed: u64) -> Result<TickerStripe, NoMemory>
+        ensures { IfOk result (λ s. Stands s []) }
+    {
+        let table = SubTable::with_seed(alloc, seed)?;
         let queues = empty_queues(alloc)?;
         Ok(TickerStripe {
             table,

@@ -16,6 +16,3 @@ mod values;
 pub use ask::{Ask, Command};
 pub use laws::{any_order, value_behind_equals};
 pub use reading::ask_of;
-
-#[cfg(test)]
-mod tests;

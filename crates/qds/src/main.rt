@@ -5,29 +5,35 @@ ghost use Rattle.std.specs.Prelude.{◌≡◌};
 ghost use Rattle.std.specs.Process.{exit_status};
 
 use qd_outside::{Reading, RealFiles, Writing};
-use qds_tools::{Status, plain_main, report_no_words};
+use qds_tools::{Status, run_main};
 use std::process::ExitCode;
+use std::random::RandomSource;
 use std::{env, io};
 
 fn main(rt: HostRuntime) -> ExitCode {
+    let mut files = RealFiles::new(&rt);
+    let mut input = Reading::new(rt.stdin());
     let mut out = Writing::new(rt.stdout());
     let mut err = Writing::new(rt.stderr());
-    let status = match words(&rt) {
-        Ok(words) => {
-            let mut files = RealFiles::new(&rt);
-            let mut input = Reading::new(rt.stdin());
-            plain_main(
-                rt.alloc(),
-                &words,
-                &mut files,
-                &mut input,
-                &mut out,
-                &mut err,
-            )
-        }
-        Err(why) => report_no_words(why, &mut err),
-    };
+    let status = run_main(
+        rt.alloc(),
+        seed(&rt),
+        words(&rt),
+        &mut files,
+        &mut input,
+        &mut out,
+        &mut err,
+    );
     code_of(&status)
+}
+
+// A seed that nobody outside knows; a fixed one where the system has none to give.
+fn seed(rt: &HostRuntime) -> u64 {
+    let mut bytes = [0; 8];
+    match rt.fill_bytes(&mut bytes) {
+        Ok(()) => u64::from_le_bytes(bytes),
+        Err(_) => 0,
+    }
 }
 
 // The words behind the program's name.

@@ -93,35 +93,7 @@ by_text Replay set text printed end other o w r left (sound, e, p) reads writes 
 
 -- what a replay says of the sink, as the other commands say it
 pub flushed_by : (end : RunEnd) (flushed : Bool) → ReplayFlushed end flushed → IsFlushed end flushed
-flushed_by runs.Done flushed (inl f) = f
-flushed_by runs.Done flushed (inr (inl e)) = absurd (cc)
-flushed_by runs.Done flushed (inr (inr e)) = absurd (cc)
-flushed_by (runs.CutOff line) flushed (inl f) = f
-flushed_by (runs.CutOff line) flushed (inr (inl e)) = absurd (cc)
-flushed_by (runs.CutOff line) flushed (inr (inr e)) = absurd (cc)
-flushed_by (runs.Bad bad) flushed (inl f) = f
-flushed_by (runs.Bad bad) flushed (inr (inl e)) = absurd (cc)
-flushed_by (runs.Bad bad) flushed (inr (inr e)) = absurd (cc)
-flushed_by (runs.LineTooLong line) flushed (inl f) = f
-flushed_by (runs.LineTooLong line) flushed (inr (inl e)) = absurd (cc)
-flushed_by (runs.LineTooLong line) flushed (inr (inr e)) = absurd (cc)
-flushed_by (runs.BadStep line) flushed (inl f) = f
-flushed_by (runs.BadStep line) flushed (inr (inl e)) = absurd (cc)
-flushed_by (runs.BadStep line) flushed (inr (inr e)) = absurd (cc)
-flushed_by (runs.Refused line limit) flushed (inl f) = f
-flushed_by (runs.Refused line limit) flushed (inr (inl e)) = absurd (cc)
-flushed_by (runs.Refused line limit) flushed (inr (inr e)) = absurd (cc)
-flushed_by runs.TooMuch flushed (inl f) = f
-flushed_by runs.TooMuch flushed (inr (inl e)) = absurd (cc)
-flushed_by runs.TooMuch flushed (inr (inr e)) = absurd (cc)
-flushed_by runs.ReadFault flushed (inl f) = f
-flushed_by runs.ReadFault flushed (inr (inl e)) = absurd (cc)
-flushed_by runs.ReadFault flushed (inr (inr e)) = absurd (cc)
-flushed_by runs.Spent flushed (inl f) = f
-flushed_by runs.Spent flushed (inr (inl e)) = absurd (cc)
-flushed_by runs.Spent flushed (inr (inr e)) = absurd (cc)
-flushed_by runs.WriteFault flushed f = tt
-flushed_by runs.NoMemory flushed f = tt
+flushed_by end flushed h = h
 
 -- the run over the text that is asked for
 by_asked : (command : Command) (file : Option (List ℕ)) (set : Setting) (text : List ℕ) (printed : Option (List ℕ)) (end other : RunEnd) (o w : World) → RunsOn command set file end o w → IsText file o text → LeadsTo command set text other printed → NoFault o w
@@ -177,10 +149,10 @@ pub asked_ends : (found wanted : Asked) (asks : Option Asked) (end : ProgramEnd)
 asked_ends found wanted asks end o w e f h = let same : found ≡ wanted = cc in subst (λ (x : Asked). Ends x end o w) same h
 
 -- an end that is known is reported
-pub reported : (end other : ProgramEnd) (status : ℕ) (was now : Option (List ℕ)) (before after : ℕ) → (end ≡ other) ⊎ (status_of end ≡ 5) → Reports end status was now before after → Reports other status was now before after ⊎ (status ≡ 5)
-reported end other status was now before after (inl p) r = inl (subst (λ (x : ProgramEnd). Reports x status was now before after) p r)
-reported end other status was now before after (inr p) r = inr (r.0 ∙ p)
+pub reported : (end other : ProgramEnd) (status : ℕ) (was now : Option (List ℕ)) (flushed : Bool) (before after : ℕ) → (end ≡ other) ⊎ (status_of end ≡ 5) → Reports end status was now flushed before after → Reports other status was now flushed before after ⊎ (status ≡ 5)
+reported end other status was now flushed before after (inl p) r = inl (subst (λ (x : ProgramEnd). Reports x status was now flushed before after) p r)
+reported end other status was now flushed before after (inr p) r = inr (r.0 ∙ p)
 
-pub reported_with : {A : Type 0} (end other : ProgramEnd) (status : ℕ) (was now : Option (List ℕ)) (before after : ℕ) → ((end ≡ other) × A) ⊎ (status_of end ≡ 5) → Reports end status was now before after → (Reports other status was now before after × A) ⊎ (status ≡ 5)
-reported_with end other status was now before after (inl p) r = inl (subst (λ (x : ProgramEnd). Reports x status was now before after) p.0 r, p.1)
-reported_with end other status was now before after (inr p) r = inr (r.0 ∙ p)
+pub reported_with : {A : Type 0} (end other : ProgramEnd) (status : ℕ) (was now : Option (List ℕ)) (flushed : Bool) (before after : ℕ) → ((end ≡ other) × A) ⊎ (status_of end ≡ 5) → Reports end status was now flushed before after → (Reports other status was now flushed before after × A) ⊎ (status ≡ 5)
+reported_with end other status was now flushed before after (inl p) r = inl (subst (λ (x : ProgramEnd). Reports x status was now flushed before after) p.0 r, p.1)
+reported_with end other status was now flushed before after (inr p) r = inr (r.0 ∙ p)

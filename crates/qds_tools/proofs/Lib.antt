@@ -1,3 +1,2 @@
 pub mod DecidedLaws
-pub mod Pieces
 mod Rows

@@ -3,3 +3,4 @@ pub mod Statuses
 pub mod Commands
 pub mod Program
 pub mod Telling
+pub mod Answers

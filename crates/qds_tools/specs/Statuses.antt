@@ -1,5 +1,5 @@
 -- The exit statuses of the program.
-use Rattle.std.specs.Prelude.{ℕ, ◌≡◌, ◌⊎◌, List, Option}
+use Rattle.std.specs.Prelude.{ℕ, ◌≡◌, ◌⊎◌, Bool, true, List, Option}
 use Rattle.std.specs.declared.io.ErrorKind.{ErrorKind}
 use Rattle.std.specs.declared.io.ErrorKind.TheVariants.{OutOfMemory}
 use Rattle.qd_items.specs.declared.ends.RunEnd.{RunEnd}
@@ -45,10 +45,10 @@ abbrev pub end_without_words : ErrorKind → ProgramEnd
 end_without_words OutOfMemory = Ran runs.NoMemory
 end_without_words kind = Usage
 
--- a text was written, or a fault cut it short
-abbrev pub Told : List ℕ → Option (List ℕ) → Option (List ℕ) → ℕ → ℕ → Type 0
-Told text was now before after = IsWritten text was now before after ⊎ IsCutShort text was now before after
+-- a text was written and flushed, or a fault cut it short
+abbrev pub Told : List ℕ → Option (List ℕ) → Option (List ℕ) → Bool → ℕ → ℕ → Type 0
+Told text was now flushed before after = (IsWritten text was now before after × (flushed ≡ true)) ⊎ IsCutShort text was now before after
 
 -- the status is that of the end, and its line was told
-abbrev pub Reports : ProgramEnd → ℕ → Option (List ℕ) → Option (List ℕ) → ℕ → ℕ → Type 0
-Reports end status was now before after = (status ≡ status_of end) × Told (fault_line end) was now before after
+abbrev pub Reports : ProgramEnd → ℕ → Option (List ℕ) → Option (List ℕ) → Bool → ℕ → ℕ → Type 0
+Reports end status was now flushed before after = (status ≡ status_of end) × Told (fault_line end) was now flushed before after

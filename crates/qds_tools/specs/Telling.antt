@@ -1,8 +1,8 @@
--- A text that is written piece by piece.
-use Rattle.std.specs.Prelude.{ℕ, Bool, List, ◌++◌, Option}
-use Rattle.qd_outside.specs.Writing.{Writes}
+-- A text that is told at once.
+use Rattle.std.specs.Prelude.{ℕ, ◌≡◌, Bool, true, false, List, Option}
+use Rattle.qd_outside.specs.Writing.{IsWritten, IsCutShort}
 
--- behind what was written, or cut short, so far comes one piece more, unless a write failed already
-abbrev pub Continues : Bool → Bool → List ℕ → Option (List ℕ) → Option (List ℕ) → ℕ → ℕ → Type 0
-Continues ok result piece mid now between after =
-    (text : List ℕ) (was : Option (List ℕ)) (before : ℕ) → Writes ok text was mid before between → Writes result (text ++ piece) was now before after
+-- a text was written and flushed; or a fault came, and a first part was written
+abbrev pub Tells : Bool → List ℕ → Option (List ℕ) → Option (List ℕ) → Bool → ℕ → ℕ → Type 0
+Tells true text was now flushed before after = IsWritten text was now before after × (flushed ≡ true)
+Tells false text was now flushed before after = IsCutShort text was now before after

@@ -1,112 +1,141 @@
 //! The line on standard error.
 
-ghost use Rattle.std.specs.Prelude.{◌≡◌};
+ghost use Rattle.std.specs.Prelude.{◌≡◌, ◌≤◌, ◌+◌, ◌++◌, [], length};
 ghost use Rattle.std.specs.Fmt.{decimal};
-ghost use Rattle.qd_outside.specs.Writing.{Writes};
 ghost use Rattle.qds_tools.specs.FaultLines.{plain_line, numbered_line, placed_line, scheme_line, run_line, fault_line, why_name};
-ghost use Rattle.qds_tools.specs.Telling.{Continues};
+ghost use Rattle.qds_tools.specs.Telling.{Tells};
 
 use crate::names::{limit_name, scheme_name, why_name};
 use crate::program_end::ProgramEnd;
 use itoa::Buffer;
+use qd_decimal::Line;
 use qd_items::RunEnd;
 use qd_outside::{Sink, write_all};
 use qd_scheme_file::NoScheme;
 use qd_text::BadLine;
 
-/// Writes the line on an end; nothing where all was done.
+/// Writes the line on an end and flushes it; nothing is written where all was done. The line is made first and is written
+/// at once, so that programs that write to one terminal do not mix theirs.
 pub fn write_fault<E: Sink>(err: &mut E, end: ProgramEnd) -> bool
-    ensures { Writes result (fault_line end) (E.written err.old) (E.written err.new) (E.faults err.old) (E.faults err.new) }
+    ensures { Tells result (fault_line end) (E.written err.old) (E.written err.new) (E.flushed err.new) (E.faults err.old) (E.faults err.new) }
 {
-    match end {
-        ProgramEnd::Usage => write_plain(err, "usage"),
-        ProgramEnd::Refused(why) => write_refused(err, why),
-        ProgramEnd::Ran(end) => write_run_end(err, end),
-    }
+    let mut line = Line::new();
+    put_fault(end, &mut line);
+    tell(err, line.bytes())
 }
 
-fn write_refused<E: Sink>(err: &mut E, why: NoScheme) -> bool
-    ensures { Writes result (scheme_line why) (E.written err.old) (E.written err.new) (E.faults err.old) (E.faults err.new) }
+/// Writes a text and flushes it.
+fn tell<E: Sink>(err: &mut E, text: &[u8]) -> bool
+    ensures { Tells result text.now (E.written err.old) (E.written err.new) (E.flushed err.new) (E.faults err.old) (E.faults err.new) }
 {
-    match why {
-        NoScheme::Bad(bad) => write_bad(err, "qds: scheme line ", bad),
-        NoScheme::Wrong { line, why } => {
-            write_numbered(err, "qds: scheme line ", line, scheme_name(why))
-        }
-        NoScheme::LineTooLong { line } => {
-            write_numbered(err, "qds: scheme line ", line, "LineTooLong")
-        }
-        NoScheme::TooMuch => write_plain(err, "scheme: TooMuch"),
-        NoScheme::ReadFault => write_plain(err, "read fault"),
-        NoScheme::NoMemory => write_plain(err, "no memory"),
-    }
-}
-
-fn write_run_end<E: Sink>(err: &mut E, end: RunEnd) -> bool
-    ensures { Writes result (run_line end) (E.written err.old) (E.written err.new) (E.faults err.old) (E.faults err.new) }
-{
-    match end {
-        RunEnd::Done => write_all(err, b""),
-        RunEnd::CutOff { line } => write_numbered(err, "qds: after line ", line, "CutOff"),
-        RunEnd::Bad(bad) => write_bad(err, "qds: line ", bad),
-        RunEnd::LineTooLong { line } => write_numbered(err, "qds: line ", line, "LineTooLong"),
-        RunEnd::BadStep { line } => write_numbered(err, "qds: line ", line, "BadStep"),
-        RunEnd::Refused { line, limit } => {
-            write_numbered(err, "qds: line ", line, limit_name(limit))
-        }
-        RunEnd::TooMuch => write_plain(err, "TooMuch"),
-        RunEnd::ReadFault => write_plain(err, "read fault"),
-        RunEnd::WriteFault => write_plain(err, "write fault"),
-        RunEnd::Spent => write_plain(err, "spent"),
-        RunEnd::NoMemory => write_plain(err, "no memory"),
-    }
-}
-
-fn write_plain<E: Sink>(err: &mut E, name: &str) -> bool
-    ensures { Writes result (plain_line name.now) (E.written err.old) (E.written err.new) (E.faults err.old) (E.faults err.new) }
-{
-    let started = write_all(err, b"qds: ");
-    let named = write_more(started, err, name);
-    write_more(named, err, "\n")
-}
-
-fn write_numbered<E: Sink>(err: &mut E, start: &str, line: u64, name: &str) -> bool
-    ensures { Writes result (numbered_line start.now line name.now) (E.written err.old) (E.written err.new) (E.faults err.old) (E.faults err.new) }
-{
-    let started = write_all(err, start.as_bytes());
-    let numbered = write_number(started, err, line);
-    let parted = write_more(numbered, err, ": ");
-    let named = write_more(parted, err, name);
-    write_more(named, err, "\n")
-}
-
-fn write_bad<E: Sink>(err: &mut E, start: &str, bad: BadLine) -> bool
-    ensures { Writes result (placed_line start.now bad.line bad.place (why_name bad.why)) (E.written err.old) (E.written err.new) (E.faults err.old) (E.faults err.new) }
-{
-    let started = write_all(err, start.as_bytes());
-    let numbered = write_number(started, err, bad.line);
-    let at = write_more(numbered, err, ", place ");
-    let placed = write_number(at, err, u64::from(bad.place));
-    let parted = write_more(placed, err, ": ");
-    let named = write_more(parted, err, why_name(bad.why));
-    write_more(named, err, "\n")
-}
-
-/// Writes a piece behind those that were written, unless a write failed already.
-#[tactic(auto, using(crate::proofs::Pieces::goes_on, crate::proofs::Pieces::stays))]
-fn write_more<E: Sink>(ok: bool, err: &mut E, piece: &str) -> bool
-    ensures { Continues ok result piece.now (E.written err.old) (E.written err.new) (E.faults err.old) (E.faults err.new) }
-{
-    if !ok {
+    if !write_all(err, text) {
         return false;
     }
-    write_all(err, piece.as_bytes())
+    err.flush()
 }
 
-/// Writes a number behind the pieces that were written, unless a write failed already.
-fn write_number<E: Sink>(ok: bool, err: &mut E, n: u64) -> bool
-    ensures { Continues ok result (decimal n) (E.written err.old) (E.written err.new) (E.faults err.old) (E.faults err.new) }
+fn put_fault(end: ProgramEnd, line: &mut Line)
+    requires { line.old ≡ [] }
+    ensures { line.new ≡ fault_line end }
+{
+    match end {
+        ProgramEnd::Usage => put_plain("usage", line),
+        ProgramEnd::Refused(why) => put_refused(why, line),
+        ProgramEnd::Ran(end) => put_run_end(end, line),
+    }
+}
+
+fn put_refused(why: NoScheme, line: &mut Line)
+    requires { line.old ≡ [] }
+    ensures { line.new ≡ scheme_line why }
+{
+    match why {
+        NoScheme::Bad(bad) => put_bad("qds: scheme line ", bad, line),
+        NoScheme::Wrong { line: at, why } => {
+            put_numbered("qds: scheme line ", at, scheme_name(why), line);
+        }
+        NoScheme::LineTooLong { line: at } => {
+            put_numbered("qds: scheme line ", at, "LineTooLong", line);
+        }
+        NoScheme::TooMuch => put_plain("scheme: TooMuch", line),
+        NoScheme::ReadFault => put_plain("read fault", line),
+        NoScheme::NoMemory => put_plain("no memory", line),
+    }
+}
+
+fn put_run_end(end: RunEnd, line: &mut Line)
+    requires { line.old ≡ [] }
+    ensures { line.new ≡ run_line end }
+{
+    match end {
+        RunEnd::Done => {}
+        RunEnd::CutOff { line: at } => put_numbered("qds: after line ", at, "CutOff", line),
+        RunEnd::Bad(bad) => put_bad("qds: line ", bad, line),
+        RunEnd::LineTooLong { line: at } => put_numbered("qds: line ", at, "LineTooLong", line),
+        RunEnd::BadStep { line: at } => put_numbered("qds: line ", at, "BadStep", line),
+        RunEnd::Refused { line: at, limit } => {
+            put_numbered("qds: line ", at, limit_name(limit), line);
+        }
+        RunEnd::TooMuch => put_plain("TooMuch", line),
+        RunEnd::ReadFault => put_plain("read fault", line),
+        RunEnd::WriteFault => put_plain("write fault", line),
+        RunEnd::Spent => put_plain("spent", line),
+        RunEnd::NoMemory => put_plain("no memory", line),
+    }
+}
+
+fn put_plain(name: &str, line: &mut Line)
+    requires empty { line.old ≡ [] }
+    requires short { length name.now ≤ 64 }
+    ensures { line.new ≡ plain_line name.now }
+{
+    put("qds: ", line);
+    put(name, line);
+    put("\n", line);
+}
+
+fn put_numbered(start: &str, at: u64, name: &str, line: &mut Line)
+    requires empty { line.old ≡ [] }
+    requires start { length start.now ≤ 64 }
+    requires short { length name.now ≤ 64 }
+    ensures { line.new ≡ numbered_line start.now at name.now }
+{
+    put(start, line);
+    put_number(at, line);
+    put(": ", line);
+    put(name, line);
+    put("\n", line);
+}
+
+fn put_bad(start: &str, bad: BadLine, line: &mut Line)
+    requires empty { line.old ≡ [] }
+    requires start { length start.now ≤ 64 }
+    ensures { line.new ≡ placed_line start.now bad.line bad.place (why_name bad.why) }
+{
+    put(start, line);
+    put_number(bad.line, line);
+    put(", place ", line);
+    put_number(u64::from(bad.place), line);
+    put(": ", line);
+    put(why_name(bad.why), line);
+    put("\n", line);
+}
+
+/// Appends a piece, for which there is room.
+fn put(piece: &str, line: &mut Line)
+    requires { length line.old + length piece.now ≤ 4096 }
+    ensures piece { line.new ≡ line.old ++ piece.now }
+    ensures len { length line.new ≡ length line.old + length piece.now }
+{
+    let _ = line.append(piece.as_bytes());
+}
+
+/// Appends a number.
+fn put_number(n: u64, line: &mut Line)
+    requires { length line.old + 40 ≤ 4096 }
+    ensures number { line.new ≡ line.old ++ decimal n }
+    ensures len { length line.new ≤ length line.old + 40 }
 {
     let mut digits = Buffer::new();
-    write_more(ok, err, digits.format(n))
+    put(digits.format(n), line);
 }

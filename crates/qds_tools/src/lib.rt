@@ -13,9 +13,6 @@ mod program_end;
 mod running;
 mod status;
 
-pub use plain::{plain_main, report_no_words};
+pub use plain::{plain_main, plain_main_seeded, report_no_words, run_main};
 pub use program_end::ProgramEnd;
 pub use status::Status;
-
-#[cfg(test)]
-mod tests;

@@ -1,6 +1,6 @@
 //! The names of faults, as the program prints them.
 
-ghost use Rattle.std.specs.Prelude.{◌≡◌};
+ghost use Rattle.std.specs.Prelude.{◌≡◌, ◌≤◌, length};
 ghost use Rattle.qds_tools.specs.FaultLines.{number_name, why_name, limit_name, scheme_name};
 
 use qd_decimal::DecFault;
@@ -10,7 +10,8 @@ use qd_text::Why;
 
 /// The name of a line's fault; a number's fault is told by its own.
 pub fn why_name(why: Why) -> &'static str
-    ensures { result.now ≡ why_name why }
+    ensures name { result.now ≡ why_name why }
+    ensures short { length result.now ≤ 64 }
 {
     match why {
         Why::Form => "Form",
@@ -24,7 +25,8 @@ pub fn why_name(why: Why) -> &'static str
 }
 
 fn number_name(fault: DecFault) -> &'static str
-    ensures { result.now ≡ number_name fault }
+    ensures name { result.now ≡ number_name fault }
+    ensures short { length result.now ≤ 64 }
 {
     match fault {
         DecFault::Empty => "Empty",
@@ -36,7 +38,8 @@ fn number_name(fault: DecFault) -> &'static str
 
 /// The name of a limit that was met.
 pub fn limit_name(limit: Limit) -> &'static str
-    ensures { result.now ≡ limit_name limit }
+    ensures name { result.now ≡ limit_name limit }
+    ensures short { length result.now ≤ 64 }
 {
     match limit {
         Limit::TooManyKeys => "TooManyKeys",
@@ -47,7 +50,8 @@ pub fn limit_name(limit: Limit) -> &'static str
 
 /// The name of the rule that a scheme breaks.
 pub fn scheme_name(why: SchemeWhy) -> &'static str
-    ensures { result.now ≡ scheme_name why }
+    ensures name { result.now ≡ scheme_name why }
+    ensures short { length result.now ≤ 64 }
 {
     match why {
         SchemeWhy::TooManyRecords => "TooManyRecords",

@@ -11,15 +11,16 @@ use crate::program_end::ProgramEnd;
 use qd_check::{check, fmt};
 use qd_items::RunEnd;
 use qd_outside::{FileSource, Files, Sink, Source};
-use qd_replay::replay;
+use qd_replay::replay_seeded;
 use qd_scheme::Scheme;
 use qd_scheme_file::{NoScheme, read_scheme};
 use qd_words::{Ask, Command};
 use std::alloc::Global;
 
-/// Runs what is asked: the scheme comes first, then the text.
+/// Runs what is asked: the scheme comes first, then the text. The seed is that of the collectors' hash of keys.
 pub fn run_asked<F: Files, S: Source, K: Sink>(
     alloc: Global,
+    seed: u64,
     ask: Ask<'_>,
     files: &mut F,
     input: &mut S,
@@ -30,7 +31,7 @@ pub fn run_asked<F: Files, S: Source, K: Sink>(
         (record { files = F.told files.new; left = S.left input.new; reads = S.faults input.new; written = K.written out.new; flushed = K.flushed out.new; writes = K.faults out.new }) }
 {
     match scheme_of(alloc, ask.scheme, files) {
-        Ok(scheme) => ProgramEnd::Ran(run_on(alloc, &ask, &scheme, files, input, out)),
+        Ok(scheme) => ProgramEnd::Ran(run_on(alloc, seed, &ask, &scheme, files, input, out)),
         Err(why) => ProgramEnd::Refused(why),
     }
 }
@@ -62,6 +63,7 @@ fn scheme_in<F: Files>(alloc: Global, name: &str, files: &mut F) -> Result<Schem
 /// Runs a command over its text: standard input where no file is named.
 fn run_on<F: Files, S: Source, K: Sink>(
     alloc: Global,
+    seed: u64,
     ask: &Ask<'_>,
     scheme: &Scheme,
     files: &mut F,
@@ -73,14 +75,15 @@ fn run_on<F: Files, S: Source, K: Sink>(
         (record { files = F.told files.new; left = S.left input.new; reads = S.faults input.new; written = K.written out.new; flushed = K.flushed out.new; writes = K.faults out.new }) }
 {
     match ask.file {
-        Some(name) => run_file(alloc, ask, name, scheme, files, out),
-        None => run(alloc, ask, scheme, input, out),
+        Some(name) => run_file(alloc, seed, ask, name, scheme, files, out),
+        None => run(alloc, seed, ask, scheme, input, out),
     }
 }
 
 /// Runs a command over a file.
 fn run_file<F: Files, K: Sink>(
     alloc: Global,
+    seed: u64,
     ask: &Ask<'_>,
     name: &str,
     scheme: &Scheme,
@@ -94,13 +97,14 @@ fn run_file<F: Files, K: Sink>(
         return RunEnd::ReadFault;
     }
     let mut source = FileSource::new(files);
-    run(alloc, ask, scheme, &mut source, out)
+    run(alloc, seed, ask, scheme, &mut source, out)
 }
 
 /// Runs a command over a source.
 #[tactic(auto, using(crate::proofs::DecidedLaws::flushed_by))]
 fn run<S: Source, K: Sink>(
     alloc: Global,
+    seed: u64,
     ask: &Ask<'_>,
     scheme: &Scheme,
     source: &mut S,
@@ -115,6 +119,6 @@ fn run<S: Source, K: Sink>(
     match ask.command {
         Command::Check => check(alloc, scheme, source, out),
         Command::Fmt => fmt(alloc, scheme, source, out),
-        Command::Replay => replay(alloc, scheme, ask.cap, ask.hcap, source, out),
+        Command::Replay => replay_seeded(alloc, seed, scheme, ask.cap, ask.hcap, source, out),
     }
 }

@@ -5,15 +5,15 @@ use Rattle.qd_entries.proofs.Forks.{put-after, put-middle, put-before}
 use Rattle.qd_entries.proofs.tree.Tree.+put.Goals as goal
 use Rattle.qd_entries.proofs.tree.Tree.+put.Goals.{in-Fork-4, in-Leaf-4}
 
-pub balanced-requires : goal.balanced-requires
-balanced-requires t c =
+pub balanced-requires-clause-few : goal.balanced-requires-clause-few
+balanced-requires-clause-few t c =
     let all = ap length (sym c.self.view_is ∙ ap entries_of (sym c.in-Fork.ensures.value) ∙ ap entries_of_node (sym c.deref_mut-then-index-entry.ensures.value)) in
-    record { few = omega (arith, length-append c.deref_mut-then-index-entry.result.now.before (c.deref_mut-then-index-entry.result.now.entry ∷ c.deref_mut-then-index-entry.result.now.after), length-append c.put.new.self (c.deref_mut-then-index-entry.result.now.entry ∷ c.deref_mut-then-index-entry.result.now.after)) }
+    omega (arith, length-append c.deref_mut-then-index-entry.result.now.before (c.deref_mut-then-index-entry.result.now.entry ∷ c.deref_mut-then-index-entry.result.now.after), length-append c.put.new.self (c.deref_mut-then-index-entry.result.now.entry ∷ c.deref_mut-then-index-entry.result.now.after))
 
-pub balanced-requires-in-Fork : goal.balanced-requires-in-Fork
-balanced-requires-in-Fork t c =
+pub balanced-requires-in-Fork-clause-few : goal.balanced-requires-in-Fork-clause-few
+balanced-requires-in-Fork-clause-few t c =
     let all = ap length (sym c.self.view_is ∙ ap entries_of (sym c.in-Fork.ensures.value) ∙ ap entries_of_node (sym c.deref_mut-in-Fork.ensures.value)) in
-    record { few = omega (arith, length-append c.deref_mut-in-Fork.result.now.before (c.deref_mut-in-Fork.result.now.entry ∷ c.deref_mut-in-Fork.result.now.after), length-append c.deref_mut-in-Fork.result.now.before (c.deref_mut-in-Fork.result.now.entry ∷ c.put-in-Fork.new.self)) }
+    omega (arith, length-append c.deref_mut-in-Fork.result.now.before (c.deref_mut-in-Fork.result.now.entry ∷ c.deref_mut-in-Fork.result.now.after), length-append c.deref_mut-in-Fork.result.now.before (c.deref_mut-in-Fork.result.now.entry ∷ c.put-in-Fork.new.self))
 
 pub returns-then-entry-index-clause-entries : goal.returns-then-entry-index-clause-entries
 returns-then-entry-index-clause-entries t c =

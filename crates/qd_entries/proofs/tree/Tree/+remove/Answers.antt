@@ -5,15 +5,15 @@ use Rattle.qd_entries.proofs.Forks.{remove-after, remove-middle, remove-before}
 use Rattle.qd_entries.proofs.tree.Tree.+remove.Goals as goal
 use Rattle.qd_entries.proofs.tree.Tree.+remove.Goals.{in-Fork-3, in-Leaf-3}
 
-pub balanced-requires : goal.balanced-requires
-balanced-requires t c =
+pub balanced-requires-clause-few : goal.balanced-requires-clause-few
+balanced-requires-clause-few t c =
     let all = ap length (sym c.self.view_is ∙ ap entries_of (sym c.in-Fork.ensures.value) ∙ ap entries_of_node (sym c.deref_mut-then-here-index.ensures.value)) in
-    record { few = omega (arith, length-append c.deref_mut-then-here-index.result.now.before (c.deref_mut-then-here-index.result.now.entry ∷ c.deref_mut-then-here-index.result.now.after), length-append c.remove.new.self (c.deref_mut-then-here-index.result.now.entry ∷ c.deref_mut-then-here-index.result.now.after)) }
+    omega (arith, length-append c.deref_mut-then-here-index.result.now.before (c.deref_mut-then-here-index.result.now.entry ∷ c.deref_mut-then-here-index.result.now.after), length-append c.remove.new.self (c.deref_mut-then-here-index.result.now.entry ∷ c.deref_mut-then-here-index.result.now.after))
 
-pub balanced-requires-in-Fork : goal.balanced-requires-in-Fork
-balanced-requires-in-Fork t c =
+pub balanced-requires-in-Fork-clause-few : goal.balanced-requires-in-Fork-clause-few
+balanced-requires-in-Fork-clause-few t c =
     let all = ap length (sym c.self.view_is ∙ ap entries_of (sym c.in-Fork.ensures.value) ∙ ap entries_of_node (sym c.deref_mut-in-Fork.ensures.value)) in
-    record { few = omega (arith, length-append c.deref_mut-in-Fork.result.now.before (c.deref_mut-in-Fork.result.now.entry ∷ c.deref_mut-in-Fork.result.now.after), length-append c.deref_mut-in-Fork.result.now.before (c.deref_mut-in-Fork.result.now.entry ∷ c.remove-in-Fork.new.self)) }
+    omega (arith, length-append c.deref_mut-in-Fork.result.now.before (c.deref_mut-in-Fork.result.now.entry ∷ c.deref_mut-in-Fork.result.now.after), length-append c.deref_mut-in-Fork.result.now.before (c.deref_mut-in-Fork.result.now.entry ∷ c.remove-in-Fork.new.self))
 
 pub returns-then-index-here-clause-entries : goal.returns-then-index-here-clause-entries
 returns-then-index-here-clause-entries t c =

@@ -20,4 +20,4 @@ returns-in-None-clause-steps g c =
     let a = c.in-None.ensures.answer in
     let r = rw a.1 at (c.read.ensures.reads) in
     subst (λ (k : Kept). Steps c.args.scheme.now k (told c.read.result c.read.new.self.item) c.read.new.self (g.S.Source.left c.args.source.now) (g.S.Source.left c.read.new.source) (g.S.Source.faults c.args.source.now) (g.S.Source.faults c.read.new.source))
-    c.self.view_is (r a.0 c.args.scheme.now)
+    c.self.view_is (r c.args.scheme.now)

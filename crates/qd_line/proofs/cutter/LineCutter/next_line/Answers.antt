@@ -19,6 +19,7 @@ invariant_of-self-in-None c =
       most = omega arith;
       one = ap (λ (t : List ℕ). is_one_line t) (take_window (drop c.self.inside.start c.self.inside.bytes.items) c.min-self-inside.result 4097 window) ∙ none;
       text = let s = sound.text in omega arith;
+      room = sound.room;
     }
 
 pub returns-in-Some-clause-stands : goal.returns-in-Some-clause-stands

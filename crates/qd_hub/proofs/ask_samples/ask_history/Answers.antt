@@ -1,4 +1,0 @@
-use Rattle.qd_hub.proofs.ask_samples.ask_history.Goals as goal
-
-pub try_history-requires-clause-asked : goal.try_history-requires-clause-asked
-try_history-requires-clause-asked g c = c.in_ok-op.ensures.asked (g.H.Hub.history_terms c.args.hub.now c.stripe_of-stripe.result)

@@ -1,4 +1,0 @@
-use Rattle.qd_hub.proofs.ask_samples.ask_stream.Goals as goal
-
-pub try_stream-requires-clause-asked : goal.try_stream-requires-clause-asked
-try_stream-requires-clause-asked g c = c.in_ok-op.ensures.asked (g.H.Hub.stream_terms c.args.hub.now c.stripe_of-stripe.result)

@@ -1,4 +1,0 @@
-use Rattle.qd_hub.proofs.ask_samples.ask_ticker.Goals as goal
-
-pub try_ticker-requires-clause-asked : goal.try_ticker-requires-clause-asked
-try_ticker-requires-clause-asked g c = c.in_ok-op.ensures.asked (g.H.Hub.ticker_terms c.args.hub.now c.stripe_of-stripe.result)

@@ -1,5 +1,0 @@
-use Rattle.qd_slots.proofs.IndexLaws.{indexed-new}
-use Rattle.qd_slots.proofs.names.Names.new.Goals as goal
-
-pub invariant_of-result : goal.invariant_of-result
-invariant_of-result c = indexed-new c.new-2.result c.new-3.result.items c.in_ok-free.free c.new-2.ensures.empty c.new-3.ensures.items c.in_ok-free.ensures
