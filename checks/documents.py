@@ -10,6 +10,8 @@ import shutil
 import subprocess
 import tempfile
 
+import trial
+
 TOP = pathlib.Path(__file__).resolve().parent.parent
 PAGES = [TOP / 'README.md', *sorted((TOP / 'docs').glob('*.md'))]
 
@@ -40,18 +42,17 @@ def commands(text):
 
 def run_page(page):
     """Each command of a page that does not print what the page says: the command, what it printed, what it had to."""
-    passed, failed = 0, []
+    count, failed = 0, []
     with tempfile.TemporaryDirectory() as place:
         shutil.copytree(TOP / 'examples', pathlib.Path(place) / 'examples')
-        os.symlink(TOP / 'qds', pathlib.Path(place) / 'qds')
+        os.symlink(trial.program(), pathlib.Path(place) / 'qds')
         for command, wanted in commands(page.read_text()):
-            run = subprocess.run(['bash', '-c', command], stdin=subprocess.DEVNULL, stdout=subprocess.PIPE, stderr=subprocess.STDOUT, cwd=place, timeout=60)
-            got = run.stdout.decode(errors='replace')
-            if got == wanted:
-                passed += 1
-            else:
+            count += 1
+            run = trial.run(['-c', command], program='bash', stdin=subprocess.DEVNULL, stderr=subprocess.STDOUT, cwd=place)
+            got = run.out.decode(errors='replace') if isinstance(run.status, int) else run.status
+            if got != wanted:
                 failed.append((f'{page.name}: {command}', got, wanted))
-    return passed, failed
+    return count, failed
 
 
 ROW = re.compile(r'^\| (?P<names>`[^|]+`) \|.*\| `(?P<file>qds?_\w+/specs/\w+\.antt)` \|$')
@@ -62,16 +63,13 @@ MISTAKE = re.compile(r'^\| `(?P<head>\w+)` \| `(?P<line>[^`]+)`[^|]*\| `(?P<why>
 
 def mistakes():
     """The mistakes of docs/FORMAT.md that `check` tells otherwise."""
-    passed, failed = 0, []
+    count, failed = 0, []
     for row in MISTAKE.finditer((TOP / 'docs' / 'FORMAT.md').read_text()):
         text = f'==PROTOCOL\t1\n=={row["head"]}\n' + row['line'].replace(' ⇥ ', '\t') + '\n==END\n'
-        run = subprocess.run([TOP / 'qds', 'check'], input=text.encode(), capture_output=True, timeout=60)
-        got, wanted = run.stderr.decode(), f'qds: line 3, place {row["place"]}: {row["why"]}\n'
-        if got == wanted:
-            passed += 1
-        else:
-            failed.append((f'FORMAT.md: {row["line"]}', got, wanted))
-    return passed, failed
+        wanted = (1, b'', f'qds: line 3, place {row["place"]}: {row["why"]}\n'.encode())
+        count += 1
+        failed += trial.differing(f'FORMAT.md: {row["line"]}', trial.run(['check'], text.encode()), wanted)
+    return count, failed
 
 
 def undefined():
@@ -116,7 +114,12 @@ def unlinked():
     return passed, failed
 
 
-def try_all():
-    """How many commands, names and links passed, and the failed ones."""
-    results = [run_page(page) for page in PAGES] + [mistakes(), undefined(), uncalled(), unlinked()]
+def jobs():
+    """The runs of the program that the pages show."""
+    return [(run_page, page) for page in PAGES] + [(mistakes,)]
+
+
+def look_up():
+    """How many names and links were found, and those that were not."""
+    results = [undefined(), uncalled(), unlinked()]
     return sum(passed for passed, _ in results), [it for _, failed in results for it in failed]

@@ -2,25 +2,25 @@
 """Runs the built program on hostile inputs, all from fixed seeds: random bytes, changed texts, floods of one byte,
 words, scheme files.
 
-    checks/hostile.py [SEEDS]
+    checks/hostile.py [--seeds N] [--program FILE]
 
 Each run has to end with one of the program's statuses and the line that belongs to it, and runs on one text have to agree
-with each other (`disagreement`). `checks/run` tries 40 seeds of each kind; with a number it tries so many, and prints each
-input that failed. The last line is 'N passed, M failed'."""
-import collections
-import itertools
+with each other and with text_rules (`disagreement`). `checks/run` tries 40 seeds of each kind; this tries so many as are asked
+for, and prints each input that failed. The last line is 'N passed, M failed'."""
+import argparse
+import functools
 import pathlib
 import random
 import re
-import subprocess
 import sys
-import tempfile
 
 sys.dont_write_bytecode = True
 import inputs
+import text_rules
+import trial
+from trial import End, run
 
 TOP = pathlib.Path(__file__).resolve().parent.parent
-QDS = TOP / 'crates/qds/out/qds'
 WHY = b'(Form|UnknownRecord|SchemeMismatch|Empty|BadByte|TooFine|TooLarge|BadSymbol|BadFlags|Order)'
 REFUSALS = (
     rb'(scheme )?line \d+, place \d+: ' + WHY,
@@ -38,12 +38,6 @@ LINES = {
     5: b'qds: no memory\n',
     7: b'qds: spent\n',
 }
-End = collections.namedtuple('End', 'status out line')
-
-
-def run(words, text=b''):
-    done = subprocess.run([QDS, *words], input=text, capture_output=True, timeout=60)
-    return End(done.returncode, done.stdout, done.stderr)
 
 
 def illegal(end):
@@ -61,11 +55,9 @@ def disagreement(text):
     for end in (check, fmt, replay):
         if illegal(end):
             return illegal(end)
-    if (check.status, check.line) != (fmt.status, fmt.line):
-        return f'check ends with {check}, fmt with {fmt}'
-    lines = fmt.out.count(b'\n')
-    if check.out != (b'items %d\n' % lines if check.status == 0 else b''):
-        return f'check prints {check.out}, fmt {lines} lines'
+    for word, found, wanted in (('check', check, text_rules.checked(text)), ('fmt', fmt, text_rules.formatted(text))):
+        if found != wanted:
+            return f'{word}: {trial.differing(word, found, wanted)}'
     return not_canonical(fmt, replay)
 
 
@@ -86,6 +78,7 @@ def not_canonical(fmt, replay):
     return None if told.status == 0 else f'what replay prints is refused: {told}'
 
 
+@functools.cache
 def texts():
     """What the changed texts begin as."""
     found = [path.read_bytes() for path in sorted((TOP / 'checks/cases').glob('*/stdin'))]
@@ -93,15 +86,13 @@ def texts():
     return [text for text in found if 0 < len(text) < 10_000]
 
 
-def texts_from(seeds):
-    """Each seed gives a noise, a script and two changed texts."""
-    begun = texts()
-    for seed in range(seeds):
-        rng = random.Random(seed)
-        yield f'noise {seed}', inputs.noise(rng)
-        yield f'script {seed}', inputs.script(rng)
-        yield f'changed {seed}', inputs.mutated(rng.choice(begun), rng)
-        yield f'changed script {seed}', inputs.mutated(inputs.script(rng), rng)
+def texts_of(seed):
+    """A noise, a script and two changed texts."""
+    rng = random.Random(seed)
+    yield f'noise {seed}', inputs.noise(rng)
+    yield f'script {seed}', inputs.script(rng)
+    yield f'changed {seed}', inputs.mutated(rng.choice(texts()), rng)
+    yield f'changed script {seed}', inputs.mutated(inputs.script(rng), rng)
 
 
 def floods():
@@ -111,15 +102,25 @@ def floods():
         yield f'flood of {byte} behind a head', inputs.PROTOCOL + b'==TICKER_DATA\n' + byte * 300_000
 
 
-def schemes_from(seeds):
+def try_text(name, text):
+    fault = disagreement(text)
+    return [(name, fault, text)] if fault else []
+
+
+def try_texts(seed):
+    return 4, [fault for name, text in texts_of(seed) for fault in try_text(name, text)]
+
+
+def try_flood(name, text):
+    return 1, try_text(name, text)
+
+
+def try_scheme(seed):
     """A refused scheme file prints nothing, and `check` and `fmt` tell the same of it."""
-    with tempfile.TemporaryDirectory() as place:
-        path = pathlib.Path(place) / 'scheme'
-        for seed in range(seeds):
-            path.write_bytes(inputs.scheme(random.Random(seed)))
-            check, fmt = (run([command, '--scheme', path], inputs.PROTOCOL + inputs.END) for command in ('check', 'fmt'))
-            fault = illegal(check) or illegal(fmt) or ((check.status, check.line) != (fmt.status, fmt.line) and f'{check} and {fmt}')
-            yield f'scheme {seed}', path.read_bytes(), fault
+    scheme = inputs.scheme(random.Random(seed))
+    check, fmt = (trial.run_beside({'scheme': scheme}, [word, '--scheme', 'scheme'], inputs.PROTOCOL + inputs.END) for word in ('check', 'fmt'))
+    fault = illegal(check) or illegal(fmt) or ((check.status, check.line) != (fmt.status, fmt.line) and f'{check} and {fmt}')
+    return 1, [(f'scheme {seed}', fault, scheme)] if fault else []
 
 
 WORDS = ['check', 'fmt', 'replay', 'serve', '', '-', '--', '---', '-h', '--help', '--version', '--scheme', '--scheme=', '--scheme=-', '--schemes=a', '--cap', '--cap=', '--cap=0', '--cap=1',
@@ -127,37 +128,39 @@ WORDS = ['check', 'fmt', 'replay', 'serve', '', '-', '--', '---', '-h', '--help'
          'no/such/file', 'x' * 5000, 'caf\u00e9', b'\xff', b'--cap=\xc3', 'a=b', '=', '--=', '--cap==1']
 
 
-def words_from(seeds):
-    """Up to five words; mostly a command first."""
-    for seed in range(seeds):
-        rng = random.Random(seed)
-        first = rng.choice(WORDS[:3]) if rng.random() < 0.9 else rng.choice(WORDS)
-        words = [first] + [rng.choice(WORDS) for _ in range(rng.randrange(5))]
-        yield f'words {seed}', repr(words).encode(), illegal(run(words, inputs.PROTOCOL + inputs.END))
+def try_words(seed):
+    """Up to five words; mostly a command first. One that is not UTF-8 is refused whatever the others are."""
+    rng = random.Random(seed)
+    first = rng.choice(WORDS[:3]) if rng.random() < 0.9 else rng.choice(WORDS)
+    words = [first] + [rng.choice(WORDS) for _ in range(rng.randrange(5))]
+    end = run(words, inputs.PROTOCOL + inputs.END)
+    fault = illegal(end)
+    if not fault and any(isinstance(word, bytes) for word in words) and end != (2, b'', b'qds: usage\n'):
+        fault = f'a word that is not UTF-8: {end}'
+    return 1, [(f'words {seed}', fault, repr(words))] if fault else []
 
 
-def faults(seeds):
-    """Each input with its name, its bytes and what is wrong with the runs on it."""
-    for name, text in itertools.chain(texts_from(seeds), floods()):
-        yield name, text, disagreement(text)
-    yield from schemes_from(seeds)
-    yield from words_from(seeds)
+def jobs(seeds):
+    """Each tells how many inputs there were; what is wrong with the failed ones, and their bytes."""
+    found = [(try_flood, name, text) for name, text in floods()]
+    return found + [(call, seed) for call in (try_texts, try_scheme, try_words) for seed in range(seeds)]
 
 
-def try_all(seeds):
-    """How many inputs passed; what is wrong with the failed ones, and their bytes."""
-    passed, failed = 0, []
-    for name, text, fault in faults(seeds):
-        if fault:
-            failed.append((name, fault, text))
-        else:
-            passed += 1
-    return passed, failed
+def main():
+    words = argparse.ArgumentParser()
+    words.add_argument('--seeds', type=int, default=40)
+    words.add_argument('--program')
+    words = words.parse_args()
+    trial.begin(words.program, 36_000)
+    inputs_tried, failed = 0, []
+    for call, *what in jobs(words.seeds):
+        count, faults = call(*what)
+        inputs_tried, failed = inputs_tried + count, failed + faults
+        for name, fault, text in faults:
+            print(f'{name}: {fault}\n  {text[:2000]}')
+    print(f'{inputs_tried - len(failed)} passed, {len(failed)} failed')
+    return 1 if failed else 0
 
 
 if __name__ == '__main__':
-    passed, failed = try_all(int(sys.argv[1]) if sys.argv[1:] else 40)
-    for name, fault, text in failed:
-        print(f'{name}: {fault}\n  {text[:2000]}')
-    print(f'{passed} passed, {len(failed)} failed')
-    sys.exit(1 if failed else 0)
+    sys.exit(main())
