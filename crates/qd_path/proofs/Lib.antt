@@ -1,0 +1,5 @@
+pub mod Adding
+mod Asking
+mod Cuts
+mod Heads
+mod Spelled
