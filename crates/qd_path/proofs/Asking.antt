@@ -105,7 +105,7 @@ pub asks_for_some : AsksForSome
 asks_for_some defs side n bytes few =
     let e = some_end (mode_of side) defs bytes in
     let j = decides_judged (mode_of side) defs bytes e.1 e.0 few e.2 in
-    (calls defs side n e.1, e.1, j.0, j.1, refl)
+    (calls defs side n e.1, (e.1, j.0, j.1, refl))
 
 -- two lists of lines that are judged are one
 same_lines : (mode : Mode) (defs : List RecordDef) (bytes : List ℕ) (xs ys : List (List ℕ)) (q r : List ℕ) → AreJudged mode defs bytes xs q → AreJudged mode defs bytes ys r → xs ≡ ys

@@ -30,16 +30,16 @@ module _ {X : Type 0} (key : X → Key) (call : Filled X → Call) (n i : ℕ) (
 
   one_behind : (k : ℕ) → i < k → of_calls i (asks_up_to key call n xs k) ≡ asks call i (of_stripe key n i xs)
   one_behind zero h = absurd (omega (arith, h))
-  one_behind (suc k) h = go (nat_eq k i) refl
+  one_behind (suc k) h = go (nat_eq k i) refl (λ below. one_behind k below)
     where
-      go : (b : Bool) → nat_eq k i ≡ b → of_calls i (asks_up_to key call n xs (suc k)) ≡ asks call i (of_stripe key n i xs)
-      go true e =
+      go : (b : Bool) → nat_eq k i ≡ b → (i < k → of_calls i (asks_up_to key call n xs k) ≡ asks call i (of_stripe key n i xs)) → of_calls i (asks_up_to key call n xs (suc k)) ≡ asks call i (of_stripe key n i xs)
+      go true e before =
           let same : k ≡ i = grind (arith, nat_tests) in
           one_more k [] (asks call i (of_stripe key n i xs)) (none_before k (omega (arith, same)))
           (subst (λ (j : ℕ). of_calls i (asks call j (of_stripe key n j xs)) ≡ asks call i (of_stripe key n i xs)) (sym same) (same_stripe call i (of_stripe key n i xs)))
-      go false e =
+      go false e before =
           let below : i < k = grind (arith, nat_tests) in
-          one_more k (asks call i (of_stripe key n i xs)) [] (one_behind k below) (other_stripe call i k (of_stripe key n k xs) e) ∙ append-nil (asks call i (of_stripe key n i xs))
+          one_more k (asks call i (of_stripe key n i xs)) [] (before below) (other_stripe call i k (of_stripe key n k xs) e) ∙ append-nil (asks call i (of_stripe key n i xs))
 
 pub cuts_by_stripe : {X : Type 0} (key : X → Key) → CutsByStripe key
 cuts_by_stripe key call n i items h = one_behind key call n i items n h

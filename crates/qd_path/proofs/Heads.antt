@@ -28,7 +28,7 @@ use Rattle.qd_path.specs.Groups.{Group, group_with, is_foreign, is_full, kind_of
 use Rattle.qd_path.specs.Laws.{AllPuts, IsPut}
 use Rattle.qd_path.proofs.Spelled.{may_stand, place_message}
 
-ArePuts : List Asked → Type 0
+abbrev ArePuts : List Asked → Type 0
 ArePuts asked = All (λ a. IsPut a.call) asked
 
 none_put : ArePuts []
@@ -38,7 +38,7 @@ put_too : (a b : List Asked) → ArePuts a → ArePuts b → ArePuts (a ++ b)
 put_too a b h g = All-append (λ (x : Asked). IsPut x.call) a b h g
 
 -- a message of data, or none yet
-is_data : Option Message → Bool
+abbrev is_data : Option Message → Bool
 is_data None = true
 is_data (Some TickerData) = true
 is_data (Some StreamData) = true

@@ -30,6 +30,7 @@ pub enum Reaction {
 /// What a reply is to a call that wants nothing but to be granted.
 fn granted<T: Copy>(reply: &Reply<T>) -> Reaction
     ensures grants { Grants reply.now result }
+    ensures made { IsMade result }
 {
     match reply {
         Reply::Done => Reaction::Done,
@@ -41,6 +42,7 @@ fn granted<T: Copy>(reply: &Reply<T>) -> Reaction
 
 fn granted_event(reply: &HistoryReply) -> Reaction
     ensures grants { GrantsEvent reply.now result }
+    ensures made { IsMade result }
 {
     match reply {
         HistoryReply::Done => Reaction::Done,
