@@ -1,13 +1,10 @@
 -- What lists gain in one run of calls and then in another.
-use Rattle.std.proofs.Common.{ℕ, nat_eq, ◌≡◌, ◌<◌, Bool, true, false, cond, List, [], ◌∷◌, ◌++◌, refl, ap, sym, ◌∙◌, append_assoc}
+use Rattle.std.proofs.Common.{ℕ, nat_eq, ◌≡◌, Bool, true, false, cond, List, [], ◌∷◌, ◌++◌, refl, ap, sym, ◌∙◌, append_assoc}
 use Rattle.qd_gate.specs.declared.machine.Entry.{Entry}
 use Rattle.qd_gate.specs.declared.machine.Terms.{Terms}
 use Rattle.qd_gate.specs.Logs.{entry}
 use Rattle.qd_gate.specs.Passes.{Pass}
 use Rattle.qd_gate.proofs.Prefixes.{prefix_trans}
-use Rattle.qd_scheme.specs.declared.key.Record.{Record}
-use Rattle.qd_sub.specs.declared.op.Op.{Op}
-use Rattle.qd_sub.specs.declared.op.Reply.{Reply}
 use Rattle.qd_ticker.specs.Legal as ticker
 use Rattle.qd_stream.specs.Legal as stream
 use Rattle.qd_hist_rules.specs.Legal as history

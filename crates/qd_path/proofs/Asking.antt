@@ -1,5 +1,5 @@
 -- Each text asks for one list of calls, and the calls of the lines judged so far are the first ones of it.
-use Rattle.std.proofs.Common.{ℕ, ◌≡◌, ◌+◌, ◌<◌, ◌≤◌, ◌^◌, ◌⊎◌, inl, inr, Bool, true, false, Option, Some, None, List, [], ◌∷◌, ◌++◌, length, take, refl, sym, ap, ◌∙◌, subst, arith, append_assoc, length-append, nat_lt}
+use Rattle.std.proofs.Common.{ℕ, ◌≡◌, ◌+◌, ◌≤◌, ◌^◌, ◌⊎◌, inl, inr, Bool, true, false, Option, Some, None, List, [], ◌∷◌, ◌++◌, length, refl, sym, ap, ◌∙◌, subst, arith, append_assoc, length-append, nat_lt}
 use Rattle.std.specs.Prelude.{Result, Ok, Err}
 use Rattle.std.proofs.lemmas.Bool.Decides.{nat_tests}
 use Rattle.std.proofs.lemmas.List.{append-nil, take-append-le}
@@ -10,20 +10,19 @@ use Rattle.qd_grammar.specs.declared.fault.Fault.{Fault}
 use Rattle.qd_grammar.specs.declared.item.Item.{Item}
 use Rattle.qd_grammar.specs.declared.item.Mode.{Mode}
 use Rattle.qd_line.specs.Cutter.{IsHungry, IsTooLong}
-use Rattle.qd_line.specs.Lines.{IsCut, joined, is_one_line}
-use Rattle.qd_text.specs.declared.reader.BadLine.{BadLine}
+use Rattle.qd_line.specs.Lines.{joined, is_one_line}
 use Rattle.qd_items.specs.declared.ends.TextEnd.{TextEnd}
 use Rattle.qd_items.specs.declared.ends.TextEnd.TheVariants as ends
 use Rattle.qd_items.specs.Deciding.{Decides}
 use Rattle.qd_items.specs.Ends.{Causes}
 use Rattle.qd_items.specs.Judging.{Numbered, Stop, StopsAt, NoneBehind, items_of, said, state_of, stop_of, with_said}
 use Rattle.qd_items.specs.Judging.Stop.{Open, AtEnd, AtBad}
-use Rattle.qd_items.specs.Standing.{Past, IsTaken}
+use Rattle.qd_items.specs.Standing.{IsTaken}
 use Rattle.qd_items.proofs.DecidingLaws.{decided_lines, one_end}
 use Rattle.qd_items.proofs.EveryText.{some_end}
 use Rattle.qd_path.specs.declared.call.Asked.{Asked}
 use Rattle.qd_path.specs.declared.side.Side.{Side}
-use Rattle.qd_path.specs.Calls.{AreJudged, AskFor, agent_of, calls, calls_of_items, calls_with, mode_of, place_of}
+use Rattle.qd_path.specs.Calls.{AreJudged, agent_of, calls, calls_of_items, calls_with, mode_of, place_of}
 use Rattle.qd_path.specs.Laws.{AsksForSome, AsksForOne, AsksFirst}
 
 module _ (mode : Mode) (defs : List RecordDef) (bytes : List ℕ) (lines : List (List ℕ)) where

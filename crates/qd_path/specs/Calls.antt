@@ -1,5 +1,5 @@
 -- Which calls the bytes of a link ask for.
-use Rattle.std.specs.Prelude.{ℕ, suc, zero, ◌≡◌, ◌⊎◌, Bool, true, false, if◌then◌else◌, Option, Some, None, List, [], ◌∷◌, ◌++◌, length}
+use Rattle.std.specs.Prelude.{ℕ, suc, zero, ◌≡◌, ◌⊎◌, if◌then◌else◌, Option, Some, None, List, [], ◌∷◌, ◌++◌, length}
 use Rattle.qd_buffer.specs.Filled.{Filled}
 use Rattle.qd_buffer.specs.Splitting.{of_stripe}
 use Rattle.qd_scheme.specs.declared.defs.RecordDef.{RecordDef}

@@ -1,9 +1,8 @@
 -- New engines stand for the empty past.
-use Rattle.std.proofs.Common.{ℕ, ◌≡◌, Option, None, List, [], false, refl, arith}
+use Rattle.std.proofs.Common.{◌≡◌, None, List, [], false, refl, arith}
 use Rattle.std.proofs.lemmas.List.Elements.{All-nil}
-use Rattle.qd_items.specs.Standing.{Kept, nothing, opening}
+use Rattle.qd_items.specs.Standing.{Kept, opening}
 use Rattle.qd_items.proofs.StepLaws.{opening_read}
-use Rattle.qd_scheme.specs.declared.defs.RecordDef.{RecordDef}
 use Rattle.qd_path.specs.declared.call.Asked.{Asked}
 use Rattle.qd_path.specs.declared.side.Side.{Side}
 use Rattle.qd_path.specs.Calls.{Place, beginning, mode_of}

@@ -1,11 +1,11 @@
 -- A group is cut into calls.
-use Rattle.std.proofs.Common.{ℕ, Bool, cond, ◌++◌, suc, ◌≡◌, ◌+◌, ◌<◌, ◌≤◌, ◌^◌, true, false, nat_eq, Option, Some, List, [], ◌∷◌, length, drop, get_or, refl, sym, ap, ◌∙◌, subst, arith, append_assoc}
-use Rattle.std.specs.Prelude.{All, slice_get, ◌==◌}
+use Rattle.std.proofs.Common.{ℕ, Bool, cond, ◌++◌, suc, ◌≡◌, ◌+◌, ◌<◌, ◌≤◌, ◌^◌, true, false, nat_eq, Some, List, [], ◌∷◌, length, drop, get_or, refl, sym, ap, ◌∙◌, arith, append_assoc}
+use Rattle.std.specs.Prelude.{All, slice_get}
 use Rattle.std.proofs.lemmas.Bool.Decides.{nat_tests}
 use Rattle.std.proofs.lemmas.List.{get_or-drop, drop-drop}
 use Rattle.std.proofs.lemmas.List.Sums.{length-filter, count_by-le-length}
 use Rattle.std.proofs.lemmas.List.Elements.{All-filter, All-push, filter_passes}
-use Rattle.std.proofs.lemmas.Option.{slice_get-get_or, slice_get_within, get_or_from_slice_get}
+use Rattle.std.proofs.lemmas.Option.{slice_get-get_or}
 use Rattle.qd_buffer.specs.Splitting.{of_stripe, AreStripes}
 use Rattle.qd_path.specs.declared.call.Call.{Call}
 use Rattle.qd_path.specs.declared.call.Asked.{Asked}
@@ -17,7 +17,7 @@ use Rattle.qd_scheme.specs.Stripes.{stripe_of}
 use Rattle.qd_sub.specs.declared.sub.Sub.{Sub}
 use Rattle.qd_grammar.specs.declared.item.Message.{Message}
 use Rattle.qd_grammar.specs.declared.item.Message.TheVariants.{TickerData, StreamData, HistoryData, StreamLost, TickerAdd, StreamAdd, HistoryAdd, TickerRemove, StreamRemove, HistoryRemove}
-use Rattle.qd_session.specs.Cutting.{sub_call, AreAt, AreFull}
+use Rattle.qd_session.specs.Cutting.{sub_call, AreAt}
 use Rattle.qd_session.specs.Dues.{IsDueOf}
 
 -- a part of subscriptions may be asked of its stripe
@@ -63,7 +63,6 @@ module _ {T : Type 0} (key : T → Key) (n : ℕ) (xs : List T) (parts : List (F
 
   pub at_part : AreAt key n stripe part.items
   at_part = rw items_are (λ i d h. let e = filter_passes (λ item. nat_eq (stripe_of (key item) n) stripe) xs i d h in grind (arith, nat_tests))
-
 
 -- a part that is full and not empty is one call
 pub asks_full : {T : Type 0} (call : Filled T → Call) (stripe : ℕ) (items : List T) (room : ℕ) → room ≡ length items → (items ≡ [] → ⊥)

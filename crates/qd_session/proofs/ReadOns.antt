@@ -1,5 +1,5 @@
 -- An engine reads on.
-use Rattle.std.proofs.Common.{ℕ, ◌≡◌, ◌+◌, ◌<◌, ◌≤◌, ◌⊎◌, inl, inr, Bool, true, false, nat_eq, Option, Some, None, List, [], ◌∷◌, ◌++◌, length, map, refl, sym, ap, ◌∙◌, subst, arith, append_assoc, length-append, cond}
+use Rattle.std.proofs.Common.{ℕ, ◌≡◌, ◌+◌, ◌<◌, ◌≤◌, ◌⊎◌, inl, inr, Bool, true, false, nat_eq, Option, Some, None, List, [], ◌∷◌, ◌++◌, length, map, refl, sym, ap, ◌∙◌, subst, arith, length-append, cond}
 use Rattle.std.specs.Prelude.{Result, Ok, Err, is_ok, is_err}
 use Rattle.std.proofs.lemmas.List.{append-nil}
 use Rattle.std.proofs.lemmas.Bool.{eqb-false}
@@ -11,8 +11,8 @@ use Rattle.qd_items.specs.declared.ends.TextEnd.{TextEnd}
 use Rattle.qd_items.specs.declared.ends.TextEnd.TheVariants as texts
 use Rattle.qd_items.specs.declared.items.NextItem.TheVariants as nexts
 use Rattle.qd_items.specs.Ends.{EndsAt, ComesNext, last_items}
-use Rattle.qd_items.specs.Judging.{Numbered, items_of, stop_of}
-use Rattle.qd_items.specs.Standing.{Kept, Past, IsTaken, IsRead}
+use Rattle.qd_items.specs.Judging.{Numbered, items_of}
+use Rattle.qd_items.specs.Standing.{Kept, Past, IsRead}
 use Rattle.qd_items.specs.Steps as items_steps
 use Rattle.qd_items.specs.Steps.{Steps, WillRead}
 use Rattle.qd_items.proofs.StepLaws.{none_yet, went_on, same_faults, comes_next, hungry_reads}
@@ -26,12 +26,10 @@ use Rattle.qd_sub.specs.declared.sub.Sub.{Sub}
 use Rattle.qd_path.specs.declared.call.Asked.{Asked}
 use Rattle.qd_path.specs.declared.kind.Kind.{Kind}
 use Rattle.qd_path.specs.declared.kind.Kind.TheVariants.{Body, Description, Control}
-use Rattle.qd_path.specs.declared.side.Side.{Side}
 use Rattle.qd_path.specs.Calls.{Place, mode_of, agent_of, place_of, calls, calls_with, calls_of_items, after, after_kind, joined_by}
 use Rattle.qd_path.specs.Groups.{Group, size, no_group, with_sub, with_key, with_record, with_item, with_event, plain_sub, group_with, is_full, is_foreign, is_adding, is_streaming, kind_of}
 use Rattle.qd_path.specs.Lists.{Lists}
-use Rattle.qd_path.specs.Made.{Made, asked_in, AreDone}
-use Rattle.qd_session.specs.declared.ends.InEnd.{InEnd}
+use Rattle.qd_path.specs.Made.{Made, asked_in}
 use Rattle.qd_session.specs.declared.ends.InEnd.TheVariants as ends
 use Rattle.qd_session.specs.declared.ends.InTurn.TheVariants as turns
 use Rattle.qd_session.specs.Ins.{InKept, InStands, HasRead, Sourced, ReadOn, ReadOut, InCause, IsOfRead, in_end}

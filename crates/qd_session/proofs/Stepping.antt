@@ -1,5 +1,5 @@
 -- A step of an engine that reads.
-use Rattle.std.proofs.Common.{ℕ, ◌≡◌, ◌+◌, ◌<◌, ◌⊎◌, inl, inr, Bool, true, false, Option, Some, None, List, [], ◌∷◌, ◌++◌, length, map, refl, sym, ap, ◌∙◌, subst, append_assoc}
+use Rattle.std.proofs.Common.{ℕ, ◌≡◌, inl, inr, Bool, true, false, Option, Some, None, List, [], ◌∷◌, ◌++◌, length, map, refl, ap, ◌∙◌, subst}
 use Rattle.std.proofs.lemmas.List.{append-nil}
 use Rattle.qd_items.specs.Standing.{Kept, Past, IsTaken}
 use Rattle.qd_outside.specs.Reading.{Took}
@@ -9,14 +9,13 @@ use Rattle.qd_stream.specs.Legal as stream
 use Rattle.qd_hist_rules.specs.Legal as history
 use Rattle.qd_path.specs.declared.call.Asked.{Asked}
 use Rattle.qd_path.specs.declared.side.Side.{Side}
-use Rattle.qd_path.specs.Calls.{calls}
 use Rattle.qd_path.specs.Lists.{Lists, AreSound, GrewBy}
 use Rattle.qd_path.specs.Made.{Made, asked_in, AreDone, IsDone}
 use Rattle.qd_session.specs.declared.ends.InEnd.{InEnd}
 use Rattle.qd_session.specs.declared.ends.InEnd.TheVariants as ends
 use Rattle.qd_session.specs.declared.ends.InTurn.{InTurn}
 use Rattle.qd_session.specs.declared.ends.InTurn.TheVariants as turns
-use Rattle.qd_session.specs.Ins.{InKept, InStands, HasRead, Sourced, ReadsOn, ReadOut, InSteps, InEnded, InCause, MakesNext, MadeNext, end_in}
+use Rattle.qd_session.specs.Ins.{InKept, InStands, HasRead, Sourced, ReadsOn, InSteps, InEnded, InCause, MakesNext, MadeNext, end_in}
 use Rattle.qd_session.proofs.Growing.{gains_none}
 
 -- an engine with the end that it came to, and with these calls due

@@ -1,5 +1,5 @@
 -- A call of one stripe, for all the lists of a hub.
-use Rattle.std.proofs.Common.{ℕ, ◌≡◌, ◌≢◌, ◌<◌, Bool, true, false, nat_eq, List, [], ◌∷◌, refl, sym, ap, ◌∙◌, subst, arith}
+use Rattle.std.proofs.Common.{ℕ, ◌≡◌, ◌<◌, Bool, true, false, nat_eq, List, [], ◌∷◌, refl, subst, arith}
 use Rattle.std.specs.Prelude.{Result, Ok, Err, IfOk, if◌then◌else◌}
 use Rattle.std.proofs.lemmas.Bool.Decides.{nat_tests}
 use Rattle.qd_gate.specs.declared.machine.Entry.{Entry}
@@ -17,8 +17,8 @@ use Rattle.qd_ticker.specs.Legal as ticker
 use Rattle.qd_stream.specs.Legal as stream
 use Rattle.qd_hist_rules.specs.Legal as history
 use Rattle.qd_hist_rules.specs.declared.reply.HistoryReply.{HistoryReply}
-use Rattle.qd_path.specs.Lists.{Lists, AreOf, AreSound, Gains, GrewBy, at_stripe, with_ticker, with_stream, with_history}
-use Rattle.qd_path.specs.Made.{Made, Answered}
+use Rattle.qd_path.specs.Lists.{Lists, AreOf, AreSound, Gains, at_stripe, with_ticker, with_stream, with_history}
+use Rattle.qd_path.specs.Made.{Answered}
 use Rattle.qd_session.specs.Turns.{TickerTurn, StreamTurn, HistoryTurn}
 use Rattle.qd_session.proofs.Growing.{gains_none, gains_one, gains_no_turn, placed}
 

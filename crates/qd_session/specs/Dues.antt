@@ -1,8 +1,6 @@
 -- Calls that are due, and what becomes of one that is made.
-use Rattle.std.specs.Prelude.{ℕ, ◌≡◌, ◌<◌, ◌⊎◌, Bool, true, false, Result, Ok, Err, List, [], ◌∷◌}
-use Rattle.std.specs.List.{AllByRecursion}
+use Rattle.std.specs.Prelude.{ℕ, ◌≡◌, ◌<◌, [], ◌∷◌}
 use Rattle.qd_gate.specs.declared.machine.Terms.{Terms}
-use Rattle.qd_scheme.specs.declared.key.Record.{Record}
 use Rattle.qd_sub.specs.declared.op.Reply.{Reply}
 use Rattle.qd_sub.specs.declared.op.Reply.TheVariants as replies
 use Rattle.qd_ticker.specs.Asking as ticker

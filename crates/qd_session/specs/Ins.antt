@@ -1,7 +1,6 @@
 -- What an engine that reads keeps, for which past it stands, and what a step of it does.
-use Rattle.std.specs.Prelude.{ℕ, suc, ◌≡◌, ◌<◌, ◌≤◌, ◌+◌, ◌⊎◌, ◌^◌, Bool, true, false, Option, Some, None, Result, Ok, Err, List, [], ◌∷◌, ◌++◌, length, map, All}
+use Rattle.std.specs.Prelude.{ℕ, ◌≡◌, ◌<◌, ◌≤◌, ◌+◌, ◌⊎◌, Bool, true, false, Option, Some, None, Result, Ok, Err, List, [], ◌∷◌, ◌++◌, length, map, All}
 use Rattle.qd_grammar.specs.declared.item.Item.{Item}
-use Rattle.qd_grammar.specs.declared.item.Item.TheVariants as items
 use Rattle.qd_items.specs.declared.ends.TextEnd.{TextEnd}
 use Rattle.qd_items.specs.declared.ends.TextEnd.TheVariants as texts
 use Rattle.qd_items.specs.Ends.{Cause}
@@ -14,8 +13,8 @@ use Rattle.qd_outside.specs.Reading.{Took, IsSpent}
 use Rattle.qd_scheme.specs.declared.defs.RecordDef.{RecordDef}
 use Rattle.qd_path.specs.declared.call.Asked.{Asked}
 use Rattle.qd_path.specs.declared.side.Side.{Side}
-use Rattle.qd_path.specs.Calls.{Place, mode_of, agent_of, place_of, calls, calls_of, calls_with, after}
-use Rattle.qd_path.specs.Groups.{Group, size, no_group}
+use Rattle.qd_path.specs.Calls.{Place, mode_of, place_of, calls, calls_of, calls_with, after}
+use Rattle.qd_path.specs.Groups.{size, no_group}
 use Rattle.qd_path.specs.Lists.{Lists, GrewBy, IsBusyAt, IsSpentAt}
 use Rattle.qd_path.specs.Made.{Made, asked_in, AreDone, IsDone}
 use Rattle.qd_session.specs.declared.ends.InEnd.{InEnd}

@@ -312,13 +312,9 @@ impl InEngine {
         match self.items.step(scheme, source) {
             Turn::Went => InTurn::Went,
             Turn::Came => {
-                let heard = self.reading.hear(
-                    self.alloc,
-                    n,
-                    agent,
-                    self.items.item(),
-                    &mut self.due,
-                );
+                let heard = self
+                    .reading
+                    .hear(self.alloc, n, agent, self.items.item(), &mut self.due);
                 if heard.is_err() {
                     return InTurn::Ended(InEnd::NoMemory);
                 }

@@ -1,6 +1,4 @@
-use Rattle.std.proofs.Common.{ℕ, ◌≡◌, ◌+◌, ◌++◌, List, [], ◌∷◌, length, drop, ap, sym, ◌∙◌, append_assoc, arith, refl, length-drop}
-use Rattle.qd_path.specs.declared.call.Asked.{Asked}
-use Rattle.qd_path.specs.Calls.{asks, asks_up_to}
+use Rattle.std.proofs.Common.{length, ap, ◌∙◌, arith, length-drop}
 use Rattle.qd_session.proofs.Parts.{few, full_part, sound_part, at_part, items_are, drop_one, asks_step}
 use Rattle.qd_session.proofs.cutting.push_calls.Goals as goal
 

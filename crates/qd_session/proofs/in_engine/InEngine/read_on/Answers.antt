@@ -1,14 +1,9 @@
-use Rattle.std.proofs.Common.{rules, ℕ, ◌≡◌, ◌<◌, ap, sym, ◌∙◌, subst, refl, Option, List, Some, None, Bool, true, false}
-use Rattle.qd_items.specs.Standing.{Past}
+use Rattle.std.proofs.Common.{◌≡◌, ap, sym, ◌∙◌, subst}
 use Rattle.qd_items.specs.Steps.{WillRead}
-use Rattle.qd_path.specs.Made.{Made}
-use Rattle.qd_path.specs.Calls.{Place}
-use Rattle.qd_path.specs.Groups.{size}
-use Rattle.qd_path.specs.declared.call.Asked.{Asked}
 use Rattle.qd_path.specs.declared.side.Side.{Side}
 use Rattle.qd_session.specs.declared.ends.InEnd.TheVariants as ends
-use Rattle.qd_session.specs.Ins.{InKept, InStands, ReadsOn, ReadOut, in_end}
-use Rattle.qd_session.proofs.ReadOns.{read_went, read_came, read_came_wanting, read_end, read_closing, read_end_wanting, read_out, read_bytes, read_no_item, read_no_end, read_ended, after_few, no_error}
+use Rattle.qd_session.specs.Ins.{InKept, InStands, ReadOut, in_end}
+use Rattle.qd_session.proofs.ReadOns.{read_went, read_came, read_came_wanting, read_end, read_closing, read_end_wanting, read_out, read_bytes, read_no_item, read_no_end, read_ended, no_error}
 use Rattle.qd_session.proofs.in_engine.InEngine.read_on.Goals as goal
 
 pub returns-in-Went-clause-reads : goal.returns-in-Went-clause-reads

@@ -1,5 +1,5 @@
-use Rattle.std.proofs.Common.{ℕ, ◌≡◌, ap, sym, ◌∙◌, subst}
-use Rattle.qd_session.specs.Ins.{InKept, InStands, InSteps, ReadsOn, end_in}
+use Rattle.std.proofs.Common.{ℕ, ◌≡◌, sym, ◌∙◌, subst}
+use Rattle.qd_session.specs.Ins.{InKept, InStands, InSteps, end_in}
 use Rattle.qd_session.proofs.Soundness.{sound_lists}
 use Rattle.qd_session.proofs.Stepping.{read_steps, call_steps, with_end, going}
 use Rattle.qd_session.proofs.in_engine.InEngine.step.Goals as goal
@@ -16,10 +16,10 @@ returns-then-none_due-clause-step g c = λ from p made l st are.
       l,
       are,
       rw c.end_in-self-inside.ensures
-      (subst (λ (x : InKept). InSteps c.args.scheme.now (g.H.Hub.stripes c.args.hub.now) from k c.read_on-turn.result (with_end (end_in c.read_on-turn.result) x) p made l l
-      (record { left = g.S.Source.left c.args.source.now; faults = g.S.Source.faults c.args.source.now }) (record { left = g.S.Source.left c.read_on-turn.new.source; faults = g.S.Source.faults c.read_on-turn.new.source })) (sym v)
-      (read_steps c.args.scheme.now (g.H.Hub.stripes c.args.hub.now) from k c.read_on-turn.new.self c.read_on-turn.result p made l
-      (record { left = g.S.Source.left c.args.source.now; faults = g.S.Source.faults c.args.source.now }) (record { left = g.S.Source.left c.read_on-turn.new.source; faults = g.S.Source.faults c.read_on-turn.new.source }) sound st.done reads)),
+          (subst (λ (x : InKept). InSteps c.args.scheme.now (g.H.Hub.stripes c.args.hub.now) from k c.read_on-turn.result (with_end (end_in c.read_on-turn.result) x) p made l l
+          (record { left = g.S.Source.left c.args.source.now; faults = g.S.Source.faults c.args.source.now }) (record { left = g.S.Source.left c.read_on-turn.new.source; faults = g.S.Source.faults c.read_on-turn.new.source })) (sym v)
+          (read_steps c.args.scheme.now (g.H.Hub.stripes c.args.hub.now) from k c.read_on-turn.new.self c.read_on-turn.result p made l
+          (record { left = g.S.Source.left c.args.source.now; faults = g.S.Source.faults c.args.source.now }) (record { left = g.S.Source.left c.read_on-turn.new.source; faults = g.S.Source.faults c.read_on-turn.new.source }) sound st.done reads)),
     )
 
 pub returns-clause-step : goal.returns-clause-step
@@ -32,8 +32,8 @@ returns-clause-step g c = λ from p made l st are.
       t.0,
       t.1,
       rw c.end_in-self-inside-2.ensures
-      (subst (λ (x : InKept). InSteps c.args.scheme.now (g.H.Hub.stripes c.args.hub.now) from k c.call_on-turn.result (with_end (end_in c.call_on-turn.result) x) p made l t.0
-      (record { left = g.S.Source.left c.args.source.now; faults = g.S.Source.faults c.args.source.now }) (record { left = g.S.Source.left c.args.source.now; faults = g.S.Source.faults c.args.source.now })) (sym kept)
-      (call_steps c.args.scheme.now (g.H.Hub.stripes c.args.hub.now) from k c.call_on-turn.new.self.due p made l t.0
-      (record { left = g.S.Source.left c.args.source.now; faults = g.S.Source.faults c.args.source.now }) st c.call_on-turn.result t.2)),
+          (subst (λ (x : InKept). InSteps c.args.scheme.now (g.H.Hub.stripes c.args.hub.now) from k c.call_on-turn.result (with_end (end_in c.call_on-turn.result) x) p made l t.0
+          (record { left = g.S.Source.left c.args.source.now; faults = g.S.Source.faults c.args.source.now }) (record { left = g.S.Source.left c.args.source.now; faults = g.S.Source.faults c.args.source.now })) (sym kept)
+          (call_steps c.args.scheme.now (g.H.Hub.stripes c.args.hub.now) from k c.call_on-turn.new.self.due p made l t.0
+          (record { left = g.S.Source.left c.args.source.now; faults = g.S.Source.faults c.args.source.now }) st c.call_on-turn.result t.2)),
     )
