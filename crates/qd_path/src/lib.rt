@@ -1,8 +1,8 @@
 //! Which calls the bytes of a link ask for, and which bytes the replies to a link are.
 //!
-//! The definitions stand in `specs/`: what a line is to a group (`Groups`), which calls lines ask for (`Calls`), which
-//! bytes are written of replies (`Texts`), which calls were made with which replies (`Made`), and by which calls the lists
-//! grew for which a hub stands (`Lists`).
+//! The definitions stand in `specs/`: what a line is to a group (`Groups`), which calls bytes ask for (`Calls`), which
+//! bytes are written of replies (`Texts`), which calls were made with which replies (`Made`), by which calls the lists
+//! grew for which a hub stands (`Lists`), and what holds of the calls of every text (`Laws`).
 #![tactic(auto)]
 
 mod call;

@@ -1,18 +1,14 @@
 //! A group is cut into calls, one for each stripe that has items of it.
 
-ghost use Rattle.std.specs.Prelude.{◌≡◌, ◌<◌, ◌≤◌, ◌^◌, ◌++◌, All, OnOk, length};
+ghost use Rattle.std.specs.Prelude.{◌≡◌, ◌<◌, ◌≤◌, ◌^◌, ◌++◌, ℕ, [], All, OnOk, length};
 ghost use Rattle.qd_buffer.specs.Splitting.{AreStripes};
-ghost use Rattle.qd_scheme.specs.Stripes.{IsStripeCount};
-ghost use Rattle.qd_stream.specs.Items.{weight};
 ghost use Rattle.qd_grammar.specs.declared.item.Message.{Message};
 ghost use Rattle.qd_path.specs.Calls.{asks, asks_all, calls_of};
 ghost use Rattle.qd_path.specs.Groups.{size};
-ghost use Rattle.std.specs.Prelude.{ℕ};
-ghost use Rattle.qd_scheme.specs.Stripes.{stripe_of};
-ghost use Rattle.qd_stream.specs.Items.{key_of_item};
-ghost use Rattle.qd_session.specs.Cutting.{record_call, item_call, event_call, sub_call, key_call, AreAt, AreFull};
-ghost use Rattle.std.specs.Prelude.{[]};
+ghost use Rattle.qd_scheme.specs.Stripes.{IsStripeCount};
+ghost use Rattle.qd_session.specs.Cutting.{record_call, item_call, event_call, sub_call, key_call, AreAt};
 ghost use Rattle.qd_session.specs.Dues.{IsDue, IsDueOf};
+ghost use Rattle.qd_stream.specs.Items.{key_of_item, weight};
 
 use crate::group::OpenGroup;
 use qd_buffer::{Buffer, split_by_stripe};
