@@ -1,2 +1,3 @@
 pub mod Rowing
 pub mod Joining
+mod Worked
