@@ -1,8 +1,8 @@
 -- A call of a state that one thread has.
-use Rattle.std.proofs.Common.{◌≡◌, ℕ, zero, suc, ◌^◌, ◌<◌, List, [], ◌∷◌, ◌++◌, length, refl, sym, ap, ◌∙◌, subst, arith, cond, eq-eqb, Some, inl}
+use Rattle.std.proofs.Common.{◌≡◌, ℕ, ◌^◌, ◌<◌, List, [], ◌∷◌, ◌++◌, length, refl, sym, ap, ◌∙◌, subst, arith, cond, eq-eqb, Some, inl}
 use Rattle.std.specs.Prelude.{All, Ok, slice_get}
 use Rattle.std.proofs.lemmas.List.{length-set}
-use Rattle.std.proofs.lemmas.List.Elements.{All-push, All-head, All-tail, All-set}
+use Rattle.std.proofs.lemmas.List.Elements.{All-push, All-head, All-tail, All-set, All-weaker}
 use Rattle.std.proofs.lemmas.Option.{slice_get_within}
 use Rattle.qd_gate.specs.declared.machine.Entry.{Entry}
 use Rattle.qd_gate.specs.declared.machine.Terms.{Terms}
@@ -11,10 +11,10 @@ use Rattle.qd_gate.specs.Passes.{Pass}
 use Rattle.qd_row.specs.Passes.{IsFirst}
 use Rattle.qd_row.specs.Rows.{Turns}
 use Rattle.qd_row.specs.Owns.{Enters, StepsAt}
-use Rattle.qd_hub.specs.Hubs.{Asks, LeavesOthers, AreOf, AreOwn}
-use Rattle.qd_hub.specs.Owns.{IsOwn, IsOwnAt, AllNew}
+use Rattle.qd_hub.specs.Hubs.{Asks, LeavesOthers, HasLists, AreOf, AreOwn}
+use Rattle.qd_hub.specs.Owns.{IsOwn, IsOwnAt, HasOwn, AllNew}
 use Rattle.qd_row.proofs.Rowing.{same_some}
-use Rattle.qd_hub.proofs.Turning.{All-at, get-set_same, get-set_other}
+use Rattle.qd_hub.proofs.Turning.{All-at, found, get-set_same, get-set_other}
 
 append_nil : {A : Type 0} (xs : List A) → xs ++ [] ≡ xs
 append_nil [] = refl
@@ -89,6 +89,21 @@ module _ {S O R : Type 0} where
       → LeavesOthers i (IsOwnAt legal stands terms before) (IsOwnAt legal stands terms after)
   stepped_others terms_of stands legal terms before after i op reply t j p apart own = (own.0, ap (λ (l : List S). slice_get l j) t.after_is ∙ get-set_other before i j t.y apart ∙ own.1, own.2)
 
+  -- each state has lists still
+  pub stepped_has : (terms_of : S → Terms) (stands : S → List (Entry O R) → Type 0) (legal : Terms → List (Entry O R) → Type 0) (terms : Terms) (before after : List S) (i : ℕ) (op : O) (reply : R) → StepsAt terms_of stands legal before i op reply after
+      → All (λ s. terms_of s ≡ terms) before → All (HasOwn legal stands terms) before → All (HasOwn legal stands terms) after
+  stepped_has terms_of stands legal terms before after i op reply t all has =
+      let h = All-at (HasOwn legal stands terms) before i t.x has t.there in
+      let turn = own_turns legal terms_of stands terms t.x t.y op reply h.0 (All-at (λ (s : S). terms_of s ≡ terms) before i t.x all t.there) t.enters h.1 in
+      subst (λ (l : List S). All (HasOwn legal stands terms) l) (sym t.after_is) (All-set (HasOwn legal stands terms) before i t.y (turn.0, turn.1) has)
+
+  -- so there are lists on each stripe
+  pub owns_there : (legal : Terms → List (Entry O R) → Type 0) (stands : S → List (Entry O R) → Type 0) (terms : Terms) (n : ℕ) (states : List S) → length states ≡ n → All (HasOwn legal stands terms) states → HasLists n (IsOwnAt legal stands terms states)
+  owns_there legal stands terms n states count has i below =
+      let at = found states i (omega (arith, below, count)) in
+      let h = All-at (HasOwn legal stands terms) states i at.0 has at.1 in
+      (h.0, (at.0, at.1, h.1))
+
   -- the lists have the terms and the number 0
   pub owns_are : (legal : Terms → List (Entry O R) → Type 0) (stands : S → List (Entry O R) → Type 0) (terms : Terms) (states : List S) → AreOf legal (λ i. terms) (λ i. 0) (IsOwnAt legal stands terms states)
   owns_are legal stands terms states i p own = (
@@ -121,8 +136,19 @@ module _ {S O R : Type 0} where
           looked = first.looked;
         },
       )
+
+  -- new states have the empty lists
+  pub new_has : (legal : Terms → List (Entry O R) → Type 0) (stands : S → List (Entry O R) → Type 0) (terms_of : S → Terms) (terms : Terms) (n : ℕ) (states : List S) → AllNew stands terms_of n terms states → legal terms []
+      → All (HasOwn legal stands terms) states
+  new_has legal stands terms_of terms n states all ok =
+      All-weaker (λ (s : S). stands s []) (HasOwn legal stands terms) (λ s h. (nobody, record { number = refl; same_terms = refl; stands_for = h; is_legal = ok; own = λ _ _ none. absurd (omega arith); mine = refl; looked = refl })) states all.stand
     where
-      found : (xs : List S) (i : ℕ) → i < length xs → (x : S) × (slice_get xs i ≡ Some x)
-      found [] i h = absurd (omega (arith, h))
-      found (x ∷ xs) zero h = (x, refl)
-      found (x ∷ xs) (suc i) h = found xs i (omega (arith, h))
+      nobody : Pass O R
+      nobody = record { home = record { words = 0; slots = 0; views_name = 0; atom = 0; block = 0; offset = 0; slot_names = [] }; number = 0; terms = terms; start = 0; seen = []; mine = []; looked = [] }
+
+  -- so a row of new states has so many, with these terms and the empty lists
+  pub new_row : (legal : Terms → List (Entry O R) → Type 0) (stands : S → List (Entry O R) → Type 0) (terms_of : S → Terms) (terms : Terms) (n m : ℕ) (states row : List S) → row ≡ states → n ≡ m → AllNew stands terms_of n terms states → legal terms []
+      → (length row ≡ m) × All (λ s. terms_of s ≡ terms) row × All (HasOwn legal stands terms) row
+  new_row legal stands terms_of terms n m states row is many all ok =
+      subst (λ (l : List S). (length l ≡ m) × All (λ s. terms_of s ≡ terms) l × All (HasOwn legal stands terms) l) (sym is)
+      (all.count ∙ many, all.same, new_has legal stands terms_of terms n states all ok)

@@ -15,7 +15,7 @@ use Rattle.qd_row.specs.Passes.{IsChild, IsUnion, IsSound}
 use Rattle.qd_row.specs.Rows.{homes, Turns, TurnsAt, JoinsAll}
 use Rattle.qd_row.proofs.Rowing.{as_many, same_some, turned_homes}
 use Rattle.qd_gate.specs.declared.gate.NoTurn.TheVariants.{Busy, Spent}
-use Rattle.qd_hub.specs.Hubs.{Asks, LooksOnce, GivesBack, LeavesOthers, Alike, AreOf}
+use Rattle.qd_hub.specs.Hubs.{Asks, LooksOnce, GivesBack, LeavesOthers, Alike, HasLists, AreOf}
 use Rattle.qd_hub.specs.Clients.{number_at, IsPassAt, ArePasses, AreFirst}
 
 abbrev number_of : {O R : Type 0} → Option (Pass O R) → ℕ
@@ -39,6 +39,11 @@ get-set_other {X} xs i j y apart = go (nat_lt j (length xs)) refl
 
 pub All-at : {X : Type 0} (P : X → Type 0) (xs : List X) (i : ℕ) (x : X) → All P xs → slice_get xs i ≡ Some x → P x
 All-at P xs i x all h = subst P (get_or_from_slice_get xs i x x h) (all i x (slice_get_within xs i x h))
+
+pub found : {X : Type 0} (xs : List X) (i : ℕ) → i < length xs → (x : X) × (slice_get xs i ≡ Some x)
+found [] i h = absurd (omega (arith, h))
+found (x ∷ xs) zero h = (x, refl)
+found (x ∷ xs) (suc i) h = found xs i (omega (arith, h))
 
 module _ {O R : Type 0} where
   -- the passes stay those of the gates
@@ -99,17 +104,16 @@ module _ {O R : Type 0} where
       → ((i : ℕ) (p : Pass O R) → slice_get passes i ≡ Some p → IsSound legal p) → AreOf legal (λ i. terms) (number_at passes) (IsPassAt passes)
   passes_are gates n terms passes legal are sound i p h = (All-at (λ (q : Pass O R). q.terms ≡ terms) passes i p are.same h, sym (ap number_of h), sound i p h)
 
+  -- there is a pass on each stripe
+  pub passes_there : (gates : List TableId) (n : ℕ) (terms : Terms) (passes : List (Pass O R)) → ArePasses gates n terms passes → HasLists n (IsPassAt passes)
+  passes_there gates n terms passes are i below = found passes i (let c = are.count in omega (arith, below))
+
   homes_alike : (xs ys : List (Pass O R)) → length xs ≡ length ys → ((i : ℕ) (p q : Pass O R) → slice_get xs i ≡ Some p → slice_get ys i ≡ Some q → q.home ≡ p.home) → homes ys ≡ homes xs
   homes_alike [] [] e each = refl
   homes_alike [] (y ∷ ys) e each = absurd (omega (arith, e))
   homes_alike (x ∷ xs) [] e each = absurd (omega (arith, e))
   homes_alike (x ∷ xs) (y ∷ ys) e each =
       ap (λ (t : TableId). t ∷ homes ys) (each 0 x y refl refl) ∙ ap (λ (l : List TableId). x.home ∷ l) (homes_alike xs ys (omega (arith, e)) (λ i p q a b. each (suc i) p q a b))
-
-  found : (xs : List (Pass O R)) (i : ℕ) → i < length xs → (x : Pass O R) × (slice_get xs i ≡ Some x)
-  found [] i h = absurd (omega (arith, h))
-  found (x ∷ xs) zero h = (x, refl)
-  found (x ∷ xs) (suc i) h = found xs i (omega (arith, h))
 
   -- passes that took others in stay those of the gates
   pub joined_passes : (legal : Terms → List (Entry O R) → Type 0) (gates others : List TableId) (n m : ℕ) (terms terms' : Terms) (before other after : List (Pass O R)) → ArePasses gates n terms before → ArePasses others m terms' other → m ≡ n

@@ -1,5 +1,5 @@
 -- What a hub stands for, and what a call of it does.
-use Rattle.std.specs.Prelude.{◌≡◌, ◌≢◌, ◌⊎◌, ℕ, List, [], ◌∷◌, ◌++◌, map, All, Result, IfOk}
+use Rattle.std.specs.Prelude.{◌≡◌, ◌≢◌, ◌⊎◌, ℕ, ◌<◌, List, [], ◌∷◌, ◌++◌, map, All, Result, IfOk}
 use Rattle.atomic_table.specs.Seated.{TableId}
 use Rattle.qd_scheme.specs.declared.key.Key.{Key}
 use Rattle.qd_scheme.specs.Stripes.{stripe_of}
@@ -72,6 +72,10 @@ module _ {O R : Type 0} where
   -- the lists for which it stands have these terms and this number; what was seen is legal, and its calls are all that this has of the number
   abbrev pub AreOf : (Terms → List (Entry O R) → Type 0) → (ℕ → Terms) → (ℕ → ℕ) → (ℕ → Pass O R → Type 0) → Type 0
   AreOf legal terms number stands = (i : ℕ) (p : Pass O R) → stands i p → (p.terms ≡ terms i) × (p.number ≡ number i) × IsSound legal p
+
+  -- on each of so many stripes it stands for some lists
+  abbrev pub HasLists : ℕ → (ℕ → Pass O R → Type 0) → Type 0
+  HasLists stripes stands = (i : ℕ) → i < stripes → (p : Pass O R) × stands i p
 
   -- the lists for which it stands are its own: it made all calls, and found no word
   abbrev pub AreOwn : (ℕ → Pass O R → Type 0) → Type 0

@@ -34,6 +34,10 @@ module _ {S O R : Type 0} where
   abbrev pub IsOwnAt : (Terms → List (Entry O R) → Type 0) → (S → List (Entry O R) → Type 0) → Terms → List S → ℕ → Pass O R → Type 0
   IsOwnAt legal stands terms states i p = (x : S) × (slice_get states i ≡ Some x) × IsOwn legal stands terms x p
 
+  -- there are such lists
+  abbrev pub HasOwn : (Terms → List (Entry O R) → Type 0) → (S → List (Entry O R) → Type 0) → Terms → S → Type 0
+  HasOwn legal stands terms x = (p : Pass O R) × IsOwn legal stands terms x p
+
   -- so many states, each of which has these terms and stands for no call
   pub record AllNew (stands : S → List (Entry O R) → Type 0) (terms_of : S → Terms) (n : ℕ) (terms : Terms) (states : List S) : Type 0 where
     pub count : length states ≡ n

@@ -4,7 +4,7 @@ ghost use Rattle.std.specs.Prelude.{◌≡◌, ◌<◌, ℕ, IsOk, IfErr, Option
 ghost use Rattle.qd_gate.specs.declared.machine.Terms.{Terms};
 ghost use Rattle.qd_scheme.specs.Stripes.{IsStripeCount};
 ghost use Rattle.qd_stream.specs.Items.{key_of_item};
-ghost use Rattle.qd_hub.specs.Hubs.{Home, TickerPass, StreamPass, HistoryPass, IsOfStripe, Asks, GivesBack, Leaves, LeavesOthers, AreOf, AreOwn, Alike};
+ghost use Rattle.qd_hub.specs.Hubs.{Home, TickerPass, StreamPass, HistoryPass, IsOfStripe, Asks, GivesBack, Leaves, LeavesOthers, HasLists, AreOf, AreOwn, Alike};
 
 use qd_gate::{Machine, NoTurn};
 use qd_hist_rules::{HistItem, HistoryReply};
@@ -62,10 +62,12 @@ pub trait Hub: Drop {
 
     ghost history: { Self → ℕ → HistoryPass → Type 0 };
 
-    /// How many stripes each collector has. It also tells what holds of all lists for which the hub stands.
+    /// How many stripes each collector has. It also tells that the hub stands for some lists on each of them, and what holds of all lists
+    /// for which it stands.
     fn stripes(&self) -> u8
         ensures stripes { result ≡ stripes self.now }
         ensures count { IsStripeCount result }
+        ensures lists { HasLists (stripes self.now) (ticker self.now) × HasLists (stripes self.now) (stream self.now) × HasLists (stripes self.now) (history self.now) }
         ensures ticker { AreOf ⟦<TickerStripe as Machine>⟧.legal (ticker_terms self.now) (ticker_number self.now) (ticker self.now) }
         ensures stream { AreOf ⟦<StreamStripe as Machine>⟧.legal (stream_terms self.now) (stream_number self.now) (stream self.now) }
         ensures history { AreOf ⟦<HistoryStripe as Machine>⟧.legal (history_terms self.now) (history_number self.now) (history self.now) }

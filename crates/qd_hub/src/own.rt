@@ -31,7 +31,7 @@ impl Model for OwnHub {
     ghost use Rattle.std.specs.Prelude.{◌≡◌, All, length};
     ghost use Rattle.qd_ticker.specs.Legal.{no_terms};
     ghost use Rattle.qd_hub.specs.Configs.{stream_terms, history_terms};
-    ghost use Rattle.qd_hub.specs.Owns.{Own};
+    ghost use Rattle.qd_hub.specs.Owns.{Own, HasOwn};
 
     ghost Value = { Own };
 
@@ -39,7 +39,10 @@ impl Model for OwnHub {
 
     ghost invariant = { λ h. (length h.ticker ≡ h.config.stripes) × (length h.stream ≡ h.config.stripes) × (length h.history ≡ h.config.stripes)
         × All (λ s. ⟦<StreamStripe as Machine>⟧.terms s ≡ stream_terms h.config) h.stream
-        × All (λ s. ⟦<HistoryStripe as Machine>⟧.terms s ≡ history_terms h.config) h.history };
+        × All (λ s. ⟦<HistoryStripe as Machine>⟧.terms s ≡ history_terms h.config) h.history
+        × All (HasOwn ⟦<TickerStripe as Machine>⟧.legal ⟦<TickerStripe as Machine>⟧.stands no_terms) h.ticker
+        × All (HasOwn ⟦<StreamStripe as Machine>⟧.legal ⟦<StreamStripe as Machine>⟧.stands (stream_terms h.config)) h.stream
+        × All (HasOwn ⟦<HistoryStripe as Machine>⟧.legal ⟦<HistoryStripe as Machine>⟧.stands (history_terms h.config)) h.history };
 }
 
 impl OwnHub {
