@@ -1,14 +1,14 @@
--- Calls of a row that its gates may have answered, and some that they may not, by the definitions alone.
-use Rattle.std.proofs.Common.{◌≡◌, ℕ, zero, suc, ◌<◌, ◌≤◌, ◌^◌, List, [], ◌∷◌, length, get_or, refl, ap, arith, inl, ⊎_elim}
-use Rattle.std.specs.Prelude.{All, Ok, Err, Some, Result}
+-- Calls of a row, splits and joins as they may be, and some that may not be, by the definitions alone.
+use Rattle.std.proofs.Common.{◌≡◌, ℕ, zero, suc, ◌<◌, ◌^◌, List, [], ◌∷◌, length, get_or, refl, sym, ap, arith, inl, ⊎_elim}
+use Rattle.std.specs.Prelude.{All, Ok, Err}
 use Rattle.std.proofs.lemmas.List.{length-append}
 use Rattle.atomic_table.specs.Seated.{TableId}
 use Rattle.qd_gate.specs.declared.machine.Entry.{Entry}
 use Rattle.qd_gate.specs.declared.machine.Terms.{Terms}
-use Rattle.qd_gate.specs.declared.gate.NoTurn.{NoTurn}
-use Rattle.qd_gate.specs.declared.gate.NoTurn.TheVariants.{Busy, Spent}
+use Rattle.qd_gate.specs.declared.gate.NoTurn.TheVariants.{Busy}
 use Rattle.qd_gate.specs.Logs.{entry}
 use Rattle.qd_gate.specs.Passes.{Pass}
+use Rattle.qd_row.specs.Passes.{IsChild, IsUnion}
 use Rattle.qd_row.specs.Rows.{Turns, TurnsAt}
 use Rattle.qd_row.proofs.Rowing.{same_some}
 
@@ -83,3 +83,79 @@ the_words_before_are_dropped t =
     let more = ap length t.looked.1 in
     let size = length-append t.p.looked (t.looked.0 ∷ []) in
     omega (arith, before, after, more, size)
+
+-- a pass that has seen a call of the number 8, and one that was split off from it
+abbrev theirs : Call
+theirs = entry 8 1 2
+
+abbrev parent : P
+parent = record asked { seen = theirs ∷ []; looked = 6 ∷ [] }
+
+abbrev child : P
+child = record asked { number = 9; seen = theirs ∷ [] }
+
+a_child : IsChild parent child
+a_child = record { home = refl; terms = refl; start = refl; number = λ e. absurd (omega (arith, e)); unseen = refl; seen = refl; mine = refl; looked = refl }
+
+a_child_with_a_number_that_was_seen : IsChild parent (record child { number = 8 }) → ⊥
+a_child_with_a_number_that_was_seen c = let e = ap length c.unseen in omega (arith, e)
+
+a_child_with_the_number_of_its_parent : IsChild parent (record child { number = 7 }) → ⊥
+a_child_with_the_number_of_its_parent c = c.number refl
+
+a_child_that_has_seen_less : IsChild parent (record child { seen = [] }) → ⊥
+a_child_that_has_seen_less c = let e = ap length c.seen in omega (arith, e)
+
+a_child_with_a_call : IsChild parent (record child { mine = entry 9 1 2 ∷ [] }) → ⊥
+a_child_with_a_call c = let e = ap length c.mine in omega (arith, e)
+
+a_child_with_a_word : IsChild parent (record child { looked = 6 ∷ [] }) → ⊥
+a_child_with_a_word c = let e = ap length c.looked in omega (arith, e)
+
+a_child_of_another_gate : IsChild parent (record child { home = gate 2 }) → ⊥
+a_child_of_another_gate c = let e = ap (λ (g : TableId). g.words) c.home in omega (arith, e)
+
+a_child_with_another_start : IsChild parent (record child { start = 6 }) → ⊥
+a_child_with_another_start c = let e = c.start in omega (arith, e)
+
+-- a pass that made a call, one that made another behind it, and what they are together
+abbrev earlier : P
+earlier = record asked { seen = ours ∷ []; mine = ours ∷ []; looked = 4 ∷ [] }
+
+abbrev later : P
+later = record asked { number = 8; seen = ours ∷ theirs ∷ []; mine = theirs ∷ []; looked = 6 ∷ [] }
+
+abbrev union : P
+union = record earlier { seen = ours ∷ theirs ∷ []; looked = 4 ∷ 6 ∷ [] }
+
+a_union : IsUnion Any earlier later union
+a_union = record {
+  same = (refl, refl, refl);
+  start = refl;
+  begins = (theirs ∷ [], refl);
+  begins_too = ([], refl);
+  is_legal = tt;
+  mine = refl;
+  own = refl;
+  other = refl;
+  apart = λ e. absurd (omega (arith, e));
+  looked = refl;
+}
+
+a_union_with_a_further_call_of_the_other : IsUnion Any earlier later (record union { seen = ours ∷ theirs ∷ theirs ∷ [] }) → ⊥
+a_union_with_a_further_call_of_the_other u = let e = ap length u.other in omega (arith, e)
+
+a_union_with_a_further_call_of_its_own : IsUnion Any earlier later (record union { seen = ours ∷ theirs ∷ ours ∷ [] }) → ⊥
+a_union_with_a_further_call_of_its_own u = let e = ap length u.own in omega (arith, e)
+
+a_union_with_the_calls_of_both : IsUnion Any earlier later (record union { mine = ours ∷ theirs ∷ [] }) → ⊥
+a_union_with_the_calls_of_both u = let e = ap length u.mine in omega (arith, e)
+
+a_union_that_drops_the_words : IsUnion Any earlier later (record union { looked = 4 ∷ [] }) → ⊥
+a_union_that_drops_the_words u = let e = ap length u.looked in omega (arith, e)
+
+a_union_with_the_number_of_the_other : IsUnion Any earlier later (record union { number = 8 }) → ⊥
+a_union_with_the_number_of_the_other u = let e = u.same.1 in omega (arith, e)
+
+a_union_of_one_number : (p w q : P) → p.number ≡ w.number → IsUnion Any p w q → ⊥
+a_union_of_one_number p w q same u = u.apart (sym same)
