@@ -1,14 +1,14 @@
 -- Rows of the definitions of files in memory, of plans, of adapters, and of texts that were cut short.
-use Rattle.std.proofs.Common.{arith, ◌≡◌, ◌<◌, ◌+◌, ◌-◌, ◌^◌, ℕ, Bool, true, false, Option, Some, None, List, [], ◌∷◌, ◌++◌, inl, inr, refl, sym, ap, subst, drop, length}
+use Rattle.std.proofs.Common.{arith, ◌≡◌, ◌<◌, ◌+◌, ◌-◌, ◌^◌, ℕ, Bool, true, false, Option, Some, None, List, [], ◌∷◌, ◌++◌, inl, inr, refl, sym, ap, subst, drop}
 use Rattle.std.specs.Prelude.{nat_eq, map, slice_get, unwrap_or, vec_len}
 use Rattle.std.specs.Cmp.Lexicographic.{pointwise}
 use Rattle.std.specs.Io.KnownBytes.{Consumes, IsAtEnd, Appends}
 use Rattle.qd_outside.specs.Buffering.{Prints, Drains}
 use Rattle.qd_outside.specs.Causes.{Rose}
-use Rattle.qd_outside.specs.Opening.{Opening, In, Out, FilesState, told_at_first, IsHeld, IsNoted, IsEmptied, held_in, opening_at, opening_of, told_by, told_of_system, NotesCall}
+use Rattle.qd_outside.specs.Opening.{Opening, In, Out, told_at_first, IsHeld, IsNoted, IsEmptied, held_in, opening_at, opening_of, told_by, told_of_system, NotesCall}
 use Rattle.qd_outside.specs.Passing.{FileConsumes, FileIsAtEnd, FileAppends}
 use Rattle.qd_outside.specs.Planning.{fails_next, after_call, is_failed, WritesAs}
-use Rattle.qd_outside.specs.Writing.{Gained, IsCutShort, IsWritten, Writes}
+use Rattle.qd_outside.specs.Writing.{Gained, IsCutShort}
 use Rattle.qd_outside.specs.declared.list_files.HeldFile.{HeldFile}
 use Rattle.qd_outside.specs.declared.list_files.ListFiles.{ListFiles}
 use Rattle.qd_outside.specs.declared.list_files.OpenCall.{OpenCall}
