@@ -3,3 +3,4 @@ pub mod DecidingLaws
 pub mod EveryText
 pub mod LineOrder
 pub mod StepLaws
+mod EndRows
