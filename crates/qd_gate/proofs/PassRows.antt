@@ -50,12 +50,12 @@ module _ {O R : Type 0} (legal : Terms → List (Entry O R) → Type 0) (p q : P
 
   -- an even word that stands still is no sign of another's turn, nor is a word at its end
   busy_at_rest : FoundBusy p 4 4 q → ⊥
-  busy_at_rest (first , inl odd) = let e = odd.0 in absurd (cc)
-  busy_at_rest (first , inr even) = omega (arith, even.1)
+  busy_at_rest (first, inl odd) = let e = odd.0 in absurd (cc)
+  busy_at_rest (first, inr even) = omega (arith, even.1)
 
   busy_at_an_odd_word : FoundBusy p 5 6 q → ⊥
-  busy_at_an_odd_word (first , inl odd) = let e = odd.1 in omega (arith, e)
-  busy_at_an_odd_word (first , inr even) = let e = even.0 in absurd (cc)
+  busy_at_an_odd_word (first, inl odd) = let e = odd.1 in omega (arith, e)
+  busy_at_an_odd_word (first, inr even) = let e = even.0 in absurd (cc)
 
   busy_at_the_end : (then : ℕ) → FoundBusy p (2 ^ 63) then q → ⊥
   busy_at_the_end then b = omega (arith, b.0)
