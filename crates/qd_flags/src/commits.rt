@@ -1,5 +1,5 @@
 //! The events of one key from commit place to commit place.
-ghost use Rattle.std.specs.Prelude.{◌≡◌, ◌+◌, ◌^◌, ◌<◌, ◌≤◌, ◌∷◌, [], List, length, slice_get, OnOk, if◌then◌else◌};
+ghost use Rattle.std.specs.Prelude.{◌≡◌, ◌+◌, ◌^◌, ◌<◌, ◌≤◌, ◌∷◌, [], List, length, slice_get, IsOk, OnOk, if◌then◌else◌};
 ghost use Rattle.qd_scheme.specs.declared.key.Event.{Event};
 ghost use Rattle.qd_entries.specs.Entries.{entry_at_or_below};
 ghost use Rattle.qd_flags.specs.Bits.{is_pending, is_remove, is_begin, is_snip};
@@ -216,12 +216,25 @@ impl Commits {
         }
     }
 
-    /// Makes room for so many events. After want of memory there may be more room than before.
+    /// How many events there is room for.
+    fn spare(&self) -> u32
+        ensures { result ≡ self.now.spare }
+    {
+        let held = self.held().len();
+        let room = self.events.capacity().min(self.entries.spare() as usize);
+        (room - held) as u32
+    }
+
+    /// Makes room for so many events. Memory is wanted only where there is too little room; after that there may be more than before.
     pub fn reserve(&mut self, events: u32) -> Result<(), AllocError>
         ensures ok { OnOk result (events ≤ self.new.spare) }
         ensures now { self.new.now ≡ self.old.now }
         ensures spare { self.old.spare ≤ self.new.spare }
+        ensures fits { events ≤ self.old.spare → IsOk result }
     {
+        if events <= self.spare() {
+            return Ok(());
+        }
         let held = self.held().len() as u32;
         let Some(entries) = held.checked_add(events) else {
             return Err(AllocError);
