@@ -1,5 +1,5 @@
 //! The state of one key.
-ghost use Rattle.std.specs.Prelude.{◌≡◌, ◌+◌, ◌^◌, ◌<◌, ◌≤◌, ◌∷◌, [], List, length, OnOk, IfOk, IfSome, Some, None, option_map, if◌then◌else◌};
+ghost use Rattle.std.specs.Prelude.{◌≡◌, ◌+◌, ◌^◌, ◌<◌, ◌≤◌, ◌∷◌, [], List, length, IsOk, OnOk, IfOk, IfSome, Some, None, option_map, if◌then◌else◌};
 ghost use Rattle.qd_scheme.specs.declared.key.Event.{Event};
 ghost use Rattle.qd_entries.specs.Entries.{AllBelow, entry_at_or_below};
 ghost use Rattle.qd_flags.specs.Bits.{is_begin};
@@ -47,12 +47,13 @@ impl KeyState {
         })
     }
 
-    /// Makes room for so many events. After want of memory there may be more room than before.
+    /// Makes room for so many events. Memory is wanted only where there is too little room; after that there may be more than before.
     pub fn reserve(&mut self, events: u32) -> Result<(), NoMemory>
         ensures ok { OnOk result (events ≤ self.new.spare) }
         ensures spare { self.old.spare ≤ self.new.spare }
         ensures now { self.new.now ≡ self.old.now }
         ensures width { self.new.width ≡ self.old.width }
+        ensures fits { events ≤ self.old.spare → IsOk result }
     {
         self.commits.reserve(events)
     }
