@@ -1,5 +1,5 @@
 //! The feed of an agent and a key.
-ghost use Rattle.std.specs.Prelude.{◌≡◌, ℕ, ◌+◌, ◌-◌, ◌≤◌, ◌++◌, length, OnOk};
+ghost use Rattle.std.specs.Prelude.{◌≡◌, ℕ, ◌+◌, ◌-◌, ◌≤◌, ◌++◌, length, IsOk, OnOk};
 ghost use Rattle.std.specs.VecDeque.{deque_capacity, deque_len};
 ghost use Rattle.qd_hist_feed.specs.Feeding.{nothing, is_waiting, is_done, is_swept, number_for, owed_item, owed_items, with_commit, next_item, after_next, stage_after, end_of};
 
@@ -93,11 +93,12 @@ impl Feed {
         matches!(self.stage, Stage::Ended) && self.owed.len() == 0
     }
 
-    /// Makes room for so many items more. After want of memory there may be more room than before.
+    /// Makes room for so many items more. Memory is wanted only where there is too little room; after that there may be more than before.
     pub fn reserve(&mut self, items: u32) -> Result<(), AllocError>
         ensures ok { OnOk result (items ≤ self.new.spare) }
         ensures now { self.new.now ≡ self.old.now }
         ensures spare { self.old.spare ≤ self.new.spare }
+        ensures fits { items ≤ self.old.spare → IsOk result }
     {
         self.owed.reserve(items as usize)
     }
