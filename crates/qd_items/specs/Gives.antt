@@ -9,6 +9,8 @@ use Rattle.qd_items.specs.declared.items.NextItem.{NextItem}
 use Rattle.qd_items.specs.declared.items.NextItem.TheVariants as nexts
 use Rattle.qd_items.specs.declared.items.Turn.{Turn}
 use Rattle.qd_items.specs.declared.items.Turn.TheVariants as turns
+use Rattle.qd_items.specs.declared.places.Way.{Way}
+use Rattle.qd_items.specs.declared.places.Way.TheVariants as ways
 use Rattle.qd_items.specs.Judging.{is_end}
 
 -- nothing where the line of this number is skipped; the end where it spells END or has a fault; else its item
@@ -33,3 +35,12 @@ abbrev pub told : Turn → Item → Option NextItem
 told turns.Went item = None
 told turns.Came item = Some (nexts.Item item)
 told (turns.Ended end) item = Some (nexts.Ended end)
+
+-- the same, where an end stands beside the way that the step went
+abbrev pub turn_of : Way → TextEnd → Turn
+turn_of ways.Went end = turns.Went
+turn_of ways.Came end = turns.Came
+turn_of ways.Ended end = turns.Ended end
+
+abbrev pub step_told : Way → TextEnd → Item → Option NextItem
+step_told way end item = told (turn_of way end) item

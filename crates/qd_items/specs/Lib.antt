@@ -2,6 +2,7 @@ pub mod Deciding
 pub mod Ends
 pub mod Gives
 pub mod Judging
+pub mod Places
 pub mod Runs
 pub mod Standing
 pub mod Steps

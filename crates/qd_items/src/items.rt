@@ -2,11 +2,10 @@
 
 ghost use Rattle.std.specs.Prelude.{◌≡◌, ◌≤◌, ◌<◌, ◌+◌, ◌^◌, ◌++◌, [], IfOk, Option, List, ℕ, length, take};
 ghost use Rattle.qd_outside.specs.Reading.{Took, Tells, bytes_got};
-ghost use Rattle.qd_grammar.specs.Lines.{answer_of};
-ghost use Rattle.qd_items.specs.Gives.{Gives, came, told};
-ghost use Rattle.qd_text.specs.Reading.{state_after};
+ghost use Rattle.qd_items.specs.Gives.{came, step_told, told};
 
 use crate::ends::TextEnd;
+use crate::places::{Places, Way, ended};
 use qd_line::LineCutter;
 use qd_outside::{Read, Source};
 use qd_scheme::Scheme;
@@ -41,7 +40,7 @@ pub enum Turn {
 /// Reads the items of one text.
 #[derive(Drop)]
 pub struct Items {
-    item: Item,
+    places: Places,
     cutter: LineCutter,
     reader: Reader,
     taken: u64,
@@ -55,7 +54,7 @@ impl Model for Items {
     ghost Value = { Kept };
 
     ghost view = { λ i. record {
-      item = i.item;
+      item = i.places;
       mode = i.reader.mode;
       state = i.reader.state;
       left = i.cutter.left;
@@ -80,7 +79,7 @@ impl Items {
         ensures { IfOk result (λ i. i ≡ opening mode) }
     {
         Ok(Items {
-            item: Item::Protocol,
+            places: Places::new(),
             cutter: LineCutter::new(alloc)?,
             reader: Reader::new(mode),
             taken: 0,
@@ -99,7 +98,7 @@ impl Items {
     pub fn item(&self) -> &Item
         ensures { result.now ≡ self.now.item }
     {
-        &self.item
+        self.places.item()
     }
 
     /// The next item, or the end. Reads as often as it must, and passes skipped lines over. After an end nothing is told
@@ -112,7 +111,7 @@ impl Items {
             → ComesNext scheme.now start p result self.new (S.left source.new) (S.faults source.old) (S.faults source.new) }
     {
         match self.advance(scheme, source) {
-            None => NextItem::Item(self.item),
+            None => NextItem::Item(*self.item()),
             Some(end) => NextItem::Ended(end),
         }
     }
@@ -126,11 +125,12 @@ impl Items {
         ensures next { (start : Option (List ℕ)) (p : Past) → IsRead scheme.now start self.old p (S.left source.old)
             → ComesNext scheme.now start p (came result self.new.item) self.new (S.left source.new) (S.faults source.old) (S.faults source.new) }
     {
+        let mut end = TextEnd::End;
         'steps: loop {
-            match self.step(scheme, source) {
-                Turn::Went => {}
-                Turn::Came => return None,
-                Turn::Ended(end) => return Some(end),
+            match self.go(scheme, source, &mut end) {
+                Way::Went => {}
+                Way::Came => return None,
+                Way::Ended => return Some(end),
             }
         }
     }
@@ -154,58 +154,56 @@ impl Items {
         ensures quiet { (WillRead self.old → ⊥) → source.new ≡ source.old }
         ensures steps { Steps scheme.now self.old (told result self.new.item) self.new (S.left source.old) (S.left source.new) (S.faults source.old) (S.faults source.new) }
     {
+        let mut end = TextEnd::End;
+        match self.go(scheme, source, &mut end) {
+            Way::Went => Turn::Went,
+            Way::Came => Turn::Came,
+            Way::Ended => Turn::Ended(end),
+        }
+    }
+
+    /// The same, with the end put aside.
+    #[inline]
+    fn go<S: Source>(&mut self, scheme: &Scheme, source: &mut S, end: &mut TextEnd) -> Way
+        ensures mode { self.new.mode ≡ self.old.mode }
+        ensures kept { S.kept source.new ≡ S.kept source.old }
+        ensures quiet { (WillRead self.old → ⊥) → source.new ≡ source.old }
+        ensures steps { Steps scheme.now self.old (step_told result end.new self.new.item) self.new (S.left source.old) (S.left source.new) (S.faults source.old) (S.faults source.new) }
+    {
         match self.cutter.next_line() {
-            qd_line::Next::Line => judge(
-                &mut self.reader,
-                scheme,
-                self.cutter.text(),
-                &mut self.item,
-            ),
-            qd_line::Next::None => self.read(source),
-            qd_line::Next::TooLong { line } => Turn::Ended(TextEnd::LineTooLong { line }),
+            qd_line::Next::Line => self
+                .places
+                .judge(&mut self.reader, scheme, self.cutter.text(), end),
+            qd_line::Next::None => self.read(source, end),
+            qd_line::Next::TooLong { line } => ended(TextEnd::LineTooLong { line }, end),
         }
     }
 
     /// Reads once.
-    fn read<S: Source>(&mut self, source: &mut S) -> Turn
+    #[inline(never)]
+    fn read<S: Source>(&mut self, source: &mut S, end: &mut TextEnd) -> Way
         requires { IsHungry self.old.left }
         ensures mode { self.new.mode ≡ self.old.mode }
         ensures kept { S.kept source.new ≡ S.kept source.old }
         ensures quiet { self.old.taken ≡ 2 ^ 40 → source.new ≡ source.old }
-        ensures reads { (defs : List RecordDef) → Steps defs self.old (told result self.new.item) self.new (S.left source.old) (S.left source.new) (S.faults source.old) (S.faults source.new) }
+        ensures reads { (defs : List RecordDef) → Steps defs self.old (step_told result end.new self.new.item) self.new (S.left source.old) (S.left source.new) (S.faults source.old) (S.faults source.new) }
     {
         if self.taken == MOST_BYTES {
-            return Turn::Ended(TextEnd::TooMuch);
+            return ended(TextEnd::TooMuch, end);
         }
         let most = (MOST_BYTES - self.taken) as usize;
         match read_some(source, &mut self.piece, most) {
             Read::Got(n) => {
                 feed(&mut self.cutter, &self.piece[..n]);
                 self.taken += n as u64;
-                Turn::Went
+                Way::Went
             }
-            Read::End => Turn::Ended(TextEnd::CutOff {
-                line: self.cutter.line(),
-            }),
-            Read::Failed => Turn::Ended(TextEnd::ReadFault),
+            Read::End => {
+                let line = self.cutter.line();
+                ended(TextEnd::CutOff { line }, end)
+            }
+            Read::Failed => ended(TextEnd::ReadFault, end),
         }
-    }
-}
-
-/// What a line gives; its item is put in place of the one before.
-fn judge(reader: &mut Reader, scheme: &Scheme, line: &[u8], item: &mut Item) -> Turn
-    requires short { length line.now ≤ 4096 }
-    requires lines { reader.old.lines < 2 ^ 63 }
-    ensures gives { Gives (answer_of reader.old.mode reader.old.state scheme.now line.now) (reader.old.lines + 1) (told result item.new) }
-    ensures reader { reader.new ≡ record { mode = reader.old.mode; state = state_after (answer_of reader.old.mode reader.old.state scheme.now line.now) reader.old.state; lines = reader.old.lines + 1 } }
-{
-    match reader.read(scheme, line, item) {
-        Ok(false) => Turn::Went,
-        Ok(true) => match item {
-            Item::End => Turn::Ended(TextEnd::End),
-            _ => Turn::Came,
-        },
-        Err(bad) => Turn::Ended(TextEnd::Bad(bad)),
     }
 }
 

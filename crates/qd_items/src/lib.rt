@@ -12,6 +12,7 @@
 mod ends;
 mod items;
 mod laws;
+mod places;
 
 pub use ends::{Limit, RunEnd, TextEnd};
 pub use items::{Items, NextItem, Turn};

@@ -6,18 +6,18 @@ use Rattle.qd_items.proofs.items.Items.advance.Goals as goal
 pub returns-in-Came-clause-work : goal.returns-in-Came-clause-work
 returns-in-Came-clause-work g c =
     let p = c.steps.invariant in
-    let next = nexts.Item c.step.new.self.item in
+    let next = nexts.Item c.go.new.self.item in
     lowers_more next _ _ _ p.3 (next_less _ _ _ _ _ _ _ next c.in-Came.ensures.steps)
 
 pub returns-in-Came-clause-next : goal.returns-in-Came-clause-next
 returns-in-Came-clause-next g c = λ start p r.
     let i = c.steps.invariant in
-    rw i.2 at (comes_next _ start p _ _ _ _ _ _ (nexts.Item c.step.new.self.item) c.in-Came.ensures.mode (i.4 start p r) c.in-Came.ensures.steps)
+    rw i.2 at (comes_next _ start p _ _ _ _ _ _ (nexts.Item c.go.new.self.item) c.in-Came.ensures.mode (i.4 start p r) c.in-Came.ensures.steps)
 
 pub returns-in-Ended-clause-next : goal.returns-in-Ended-clause-next
 returns-in-Ended-clause-next g c = λ start p r.
     let i = c.steps.invariant in
-    rw i.2 at (comes_next _ start p _ _ _ _ _ _ (nexts.Ended c.in-Ended.end) c.in-Ended.ensures.mode (i.4 start p r) c.in-Ended.ensures.steps)
+    rw i.2 at (comes_next _ start p _ _ _ _ _ _ (nexts.Ended c.go.new.end) c.in-Ended.ensures.mode (i.4 start p r) c.in-Ended.ensures.steps)
 
 pub steps-smaller : goal.steps-smaller
 steps-smaller g c = step_less _ _ _ _ _ _ _ c.in-Went.ensures.steps
