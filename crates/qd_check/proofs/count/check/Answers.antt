@@ -1,6 +1,6 @@
-use Rattle.std.proofs.Common.{refl}
+use Rattle.std.proofs.Common.{refl, inr, []}
 use Rattle.qd_items.specs.declared.ends.TextEnd.TheVariants as texts
-use Rattle.qd_check.proofs.CheckLaws.{count_printed}
+use Rattle.qd_check.proofs.CheckLaws.{count_broke, count_printed}
 use Rattle.qd_check.proofs.RunLaws.{not_begun, finished, flushed_at, decided}
 use Rattle.qd_check.proofs.count.check.Goals as goal
 
@@ -20,3 +20,6 @@ returns-clause-runs g c =
 
 pub returns-clause-decided : goal.returns-clause-decided
 returns-clause-decided g c = decided _ _ _ _ _ (returns-clause-runs g c)
+
+pub returns-in-None-clause-runs : goal.returns-in-None-clause-runs
+returns-in-None-clause-runs g c = inr (refl, count_broke _ _ _ _ [] _ _ _ _ c.count_items-counted.ensures.counts (rw c.new-out.ensures at c.in-None.ensures))
