@@ -79,8 +79,7 @@ items-preserved g c =
     let next : Option (List ℕ) = g.K.Sink.written c.hear.new.sink in
     let failed : ℕ = g.K.Sink.faults c.hear.new.sink in
     let r = let_went set o c.items.items c.let_go.new.items c.items.engine c.let_go.new.engine c.items.stripes left reads was now before after i.0 l.same l.script l.prints in
-    let told = told_step c.args.scheme.now c.let_go.new.items c.read_on.new.items left rest reads faults (nexts.Item c.read_on.new.items.item) c.in-Came.ensures.mode c.in-Came.ensures.steps in
-    (
+    let told = told_step c.args.scheme.now c.let_go.new.items c.read_on.new.items left rest reads faults (nexts.Item c.read_on.new.items.item) c.in-Came.ensures.mode c.in-Came.ensures.steps in (
       item_went set o c.let_go.new.items c.read_on.new.items c.let_go.new.engine c.hear.new.self c.items.stripes c.hear.new.stripes c.read_on.new.items.item left rest reads faults now next after failed r c.in-Came.ensures.mode told (rw c.item.ensures at c.in-None.ensures),
       c.in-Came.ensures.kept ∙ i.1,
     )
