@@ -1,0 +1,6 @@
+mod Giving
+mod Growing
+mod Prints
+mod Rounds
+mod Soundness
+mod Turning

@@ -1,0 +1,4 @@
+pub mod Asked
+pub mod Outs
+pub mod Tools
+pub mod Turns

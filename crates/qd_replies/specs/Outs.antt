@@ -1,0 +1,121 @@
+-- What an engine that writes keeps, for which past it stands, and what a step of it does.
+use Rattle.std.specs.Prelude.{ℕ, ◌≡◌, ◌<◌, ◌+◌, ◌-◌, ◌*◌, nat_lt, if◌then◌else◌, Bool, true, false, Option, Some, None, List, [], ◌∷◌, length}
+use Rattle.qd_buffer.specs.Filled.{Filled}
+use Rattle.qd_outside.specs.Causes.{Rose}
+use Rattle.qd_outside.specs.Writing.{Gained, IsWritten, IsCutShort}
+use Rattle.qd_scheme.specs.declared.defs.RecordDef.{RecordDef}
+use Rattle.qd_scheme.specs.declared.key.Record.{Record}
+use Rattle.qd_sub.specs.declared.op.Op.{Op}
+use Rattle.qd_sub.specs.declared.op.Reply.{Reply}
+use Rattle.qd_sub.specs.declared.op.Reply.TheVariants as replies
+use Rattle.qd_sub.specs.declared.sub.Want.{Want}
+use Rattle.qd_grammar.specs.declared.item.Collector.{Collector}
+use Rattle.qd_grammar.specs.declared.item.Collector.TheVariants.{Ticker, Stream, History}
+use Rattle.qd_path.specs.declared.call.Asked.{Asked}
+use Rattle.qd_path.specs.declared.call.Call.TheVariants as calls
+use Rattle.qd_path.specs.declared.side.Side.{Side}
+use Rattle.qd_path.specs.Lists.{Lists, GrewBy, IsBusyAt, IsSpentAt}
+use Rattle.qd_path.specs.Made.{Made, asked_in}
+use Rattle.qd_path.specs.Texts.{ReplyItem, items_in, text_of, sent, GoRound, place_behind, quiet_of, is_idle}
+use Rattle.qd_replies.specs.declared.ends.OutFault.{OutFault}
+use Rattle.qd_replies.specs.declared.ends.OutFault.TheVariants as faults
+use Rattle.qd_replies.specs.declared.ends.OutTurn.{OutTurn}
+use Rattle.qd_replies.specs.declared.ends.OutTurn.TheVariants as turns
+use Rattle.qd_replies.specs.declared.out_engine.Answer.{Answer}
+use Rattle.qd_replies.specs.declared.out_engine.Answer.TheVariants.{Gave, Unwritten, Busy, Spent, Unlawful}
+use Rattle.qd_replies.specs.Asked.{out_op, empty, Writes}
+
+-- the collector and the stripe at a place in the round
+abbrev pub collector_at : ℕ → ℕ → Collector
+collector_at n at = if nat_lt at n then Ticker else if nat_lt at (n + n) then Stream else History
+
+abbrev pub stripe_at : ℕ → ℕ → ℕ
+stripe_at n at = if nat_lt at n then at else if nat_lt at (n + n) then at - n else at - (n + n)
+
+-- the call that is made of a stripe
+abbrev pub call_of : Side → Collector → ℕ → Asked
+call_of side Ticker i = record { stripe = i; call = calls.Ticker (out_op side) }
+call_of side Stream i = record { stripe = i; call = calls.Stream (out_op side) }
+call_of side History i = record { stripe = i; call = calls.History (out_op side) }
+
+-- the buffers came back, and nothing is held back
+pub record IsBack {T : Type 0} (given : Option (Filled T)) (wants : Option (Filled Want)) (held : List ℕ) : Type 0 where
+  pub given_back : given ≡ Some empty
+  pub wants_back : wants ≡ Some empty
+  pub written : held ≡ []
+
+-- after an answer that gave, nothing is held back
+abbrev pub Holds : Answer → List ℕ → Type 0
+Holds (Gave count) held = held ≡ []
+Holds (Busy first found) held = held ≡ []
+Holds _ held = Unit {0}
+
+-- which buffer came back with a reply
+abbrev pub Backs : {T : Type 0} → Reply T → Option (Filled T) → Option (Filled T) → Option (Filled Want) → Option (Filled Want) → Type 0
+Backs (replies.Items items) given given' wants wants' = (items.room ≡ 256 → given' ≡ Some empty) × (wants' ≡ wants)
+Backs (replies.Wants items) given given' wants wants' = (items.room ≡ 256 → wants' ≡ Some empty) × (given' ≡ given)
+Backs _ given given' wants wants' = Unit {0}
+
+-- what a sink tells
+pub record Sunk : Type 0 where
+  pub written : Option (List ℕ)
+  pub faults : ℕ
+
+-- one stripe was asked: it gave, and the text is written, or cut short; or another caller had a turn; or it is spent
+abbrev pub Outcome : {T : Type 0} → List RecordDef → ℕ → Side → Collector → ℕ → Answer → Lists → Lists → Bool → Sunk → Sunk → Option (Filled T) → Option (Filled Want) → List ℕ → Type 0
+Outcome defs n side c i (Gave count) l m flushed o w given wants held =
+    (x : Made) × (asked_in x ≡ call_of side c i) × GrewBy n (x ∷ []) l m × Writes defs (items_in x) (Gave count) flushed o.written w.written o.faults w.faults × IsBack given wants held
+Outcome defs n side c i Unwritten l m flushed o w given wants held =
+    (x : Made) × (asked_in x ≡ call_of side c i) × GrewBy n (x ∷ []) l m × Writes defs (items_in x) Unwritten flushed o.written w.written o.faults w.faults
+Outcome defs n side c i (Busy first found) l m flushed o w given wants held = GrewBy n [] l m × IsBusyAt c i first found l m × (w ≡ o) × IsBack given wants held
+Outcome defs n side c i Spent l m flushed o w given wants held = GrewBy n [] l m × IsSpentAt c i l m × (w ≡ o)
+Outcome defs n side c i Unlawful l m flushed o w given wants held = ⊥
+
+-- what an engine keeps: its side, the place in the round, how many stripes in a row answered empty, and the fault that ended it
+pub record OutKept : Type 0 where
+  pub side : Side
+  pub at : ℕ
+  pub quiet : ℕ
+  pub ended : Option OutFault
+
+-- an engine of a hub of so many stripes
+abbrev pub IsInRound : ℕ → OutKept → Type 0
+IsInRound n k = (k.at < 3 * n) × (k.quiet < 3 * n)
+
+-- each call was that of the engine's round
+abbrev pub AreCalls : ℕ → Side → List Made → Type 0
+AreCalls n side [] = Unit {0}
+AreCalls n side (x ∷ before) = ((c : Collector) × (i : ℕ) × (asked_in x ≡ call_of side c i)) × AreCalls n side before
+
+-- an engine stands for the calls that it made, the newest first: they went round, and what was written since `from` are their replies
+pub record OutStands (defs : List RecordDef) (n : ℕ) (from : Option (List ℕ)) (k : OutKept) (past : List Made) (written : Option (List ℕ)) : Type 0 where
+  pub round : GoRound n past
+  pub own : AreCalls n k.side past
+  pub place : k.at ≡ place_behind n past
+  pub empties : k.quiet ≡ quiet_of n past
+  pub replies : Gained from written (sent defs past)
+
+-- the answer to a call: idle, where all stripes answered empty
+abbrev pub turn_of : ℕ → List ReplyItem → ℕ → OutTurn
+turn_of n given quiet = if is_idle n given quiet then turns.Idle else turns.Went (length given)
+
+-- a step made one call, and its text is written and, where it is not empty, flushed
+pub record OutWent (defs : List RecordDef) (n : ℕ) (from : Option (List ℕ)) (k : OutKept) (turn : OutTurn) (k' : OutKept) (past : List Made) (l m : Lists) (flushed : Bool) (o w : Sunk) : Type 0 where
+  pub call : Made
+  pub grew : GrewBy n (call ∷ []) l m
+  pub stands : OutStands defs n from k' (call ∷ past) w.written
+  pub is_open : k'.ended ≡ None
+  pub turn_is : turn ≡ turn_of n (items_in call) k.quiet
+  pub same : w.faults ≡ o.faults
+  pub all_flushed : 0 < length (items_in call) → flushed ≡ true
+
+-- a step of an engine that has not ended
+abbrev pub OutSteps : List RecordDef → ℕ → Option (List ℕ) → OutKept → OutTurn → OutKept → List Made → Lists → Lists → Bool → Sunk → Sunk → Type 0
+OutSteps defs n from k (turns.Went count) k' past l m flushed o w = OutWent defs n from k (turns.Went count) k' past l m flushed o w
+OutSteps defs n from k turns.Idle k' past l m flushed o w = OutWent defs n from k turns.Idle k' past l m flushed o w
+OutSteps defs n from k (turns.Busy first found) k' past l m flushed o w =
+    GrewBy n [] l m × IsBusyAt (collector_at n k.at) (stripe_at n k.at) first found l m × (k' ≡ k) × (w ≡ o)
+OutSteps defs n from k (turns.Ended faults.WriteFault) k' past l m flushed o w =
+    (x : Made) × GrewBy n (x ∷ []) l m × GoRound n (x ∷ past) × AreCalls n k.side (x ∷ past) × IsCutShort (sent defs (x ∷ past)) from w.written o.faults w.faults × (k'.ended ≡ Some faults.WriteFault)
+OutSteps defs n from k (turns.Ended faults.Spent) k' past l m flushed o w =
+    GrewBy n [] l m × IsSpentAt (collector_at n k.at) (stripe_at n k.at) l m × (w ≡ o) × (k'.ended ≡ Some faults.Spent)
