@@ -1,5 +1,5 @@
 -- A stripe answers what it is asked.
-use Rattle.std.proofs.Common.{ℕ, ◌≡◌, inl, inr, ⊎_elim, Bool, true, false, Option, Some, None, List, [], ◌∷◌, ◌++◌, refl, sym, ap, ◌∙◌, subst}
+use Rattle.std.proofs.Common.{ℕ, ◌≡◌, ⊎_elim, Bool, true, false, Option, List, [], ◌∷◌, ◌++◌, refl, ap, ◌∙◌, subst}
 use Rattle.qd_buffer.specs.Filled.{Filled}
 use Rattle.qd_gate.specs.declared.machine.Entry.{Entry}
 use Rattle.qd_gate.specs.declared.machine.Terms.{Terms}
@@ -8,7 +8,6 @@ use Rattle.qd_gate.specs.Passes.{Pass, Answers}
 use Rattle.qd_scheme.specs.declared.defs.RecordDef.{RecordDef}
 use Rattle.qd_scheme.specs.declared.key.Record.{Record}
 use Rattle.qd_sub.specs.declared.sub.Want.{Want}
-use Rattle.qd_sub.specs.declared.op.Op.{Op}
 use Rattle.qd_sub.specs.declared.op.Reply.{Reply}
 use Rattle.qd_sub.specs.declared.op.Reply.TheVariants as replies
 use Rattle.qd_ticker.specs.Legal as ticker
@@ -21,11 +20,11 @@ use Rattle.qd_path.specs.declared.side.Side.{Side}
 use Rattle.qd_path.specs.declared.side.Side.TheVariants.{Down, Up}
 use Rattle.qd_path.specs.Lists.{Lists, GrewBy}
 use Rattle.qd_path.specs.Made.{Made, asked_in}
-use Rattle.qd_path.specs.Texts.{ReplyItem, items_in, reply_items, history_items, history_item, history_want_item}
+use Rattle.qd_path.specs.Texts.{items_in, reply_items, history_items, history_item, history_want_item}
 use Rattle.qd_hist_rules.specs.declared.reply.HistoryReply.TheVariants as events
 use Rattle.qd_replies.specs.declared.out_engine.Answer.{Answer}
 use Rattle.qd_replies.specs.declared.out_engine.Answer.TheVariants.{Gave, Unwritten, Busy, Spent, Unlawful}
-use Rattle.qd_replies.specs.Asked.{out_op, empty, lent_given, lent_wants, is_given, plain_of, Tells}
+use Rattle.qd_replies.specs.Asked.{out_op, lent_given, lent_wants, is_given, plain_of, Tells}
 use Rattle.qd_replies.specs.Outs.{Sunk, call_of, IsBack, Holds, Backs, Outcome}
 
 -- the last entry of a legal log follows entries before it

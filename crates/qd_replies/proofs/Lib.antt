@@ -1,3 +1,4 @@
+mod Beginnings
 mod Giving
 mod Growing
 mod Prints

@@ -1,8 +1,8 @@
 -- An engine that writes goes round.
-use Rattle.std.proofs.Common.{ℕ, ◌≡◌, ◌<◌, ◌+◌, ◌-◌, ◌*◌, Bool, true, false, nat_eq, nat_lt, Option, Some, None, List, [], ◌∷◌, ◌++◌, length, refl, sym, ap, ◌∙◌, subst, arith, append_assoc, ◌≤◌}
-use Rattle.std.specs.Prelude.{if◌then◌else◌, cond}
+use Rattle.std.proofs.Common.{ℕ, ◌≡◌, ◌<◌, ◌+◌, ◌*◌, Bool, true, false, nat_lt, Option, None, List, [], ◌∷◌, ◌++◌, length, refl, sym, ap, ◌∙◌, subst, arith, append_assoc, ◌≤◌}
+use Rattle.std.specs.Prelude.{cond}
 use Rattle.std.proofs.lemmas.Bool.Decides.{nat_tests}
-use Rattle.qd_outside.specs.Writing.{Gained, IsWritten, IsCutShort}
+use Rattle.qd_outside.specs.Writing.{Gained, IsCutShort}
 use Rattle.qd_outside.proofs.Streams.{Gained-more}
 use Rattle.qd_scheme.specs.declared.defs.RecordDef.{RecordDef}
 use Rattle.qd_grammar.specs.declared.item.Collector.{Collector}
@@ -11,17 +11,15 @@ use Rattle.qd_path.specs.declared.call.Asked.{Asked}
 use Rattle.qd_path.specs.declared.call.Call.TheVariants as calls
 use Rattle.qd_path.specs.declared.side.Side.{Side}
 use Rattle.qd_replies.specs.Asked.{out_op}
-use Rattle.qd_path.specs.Lists.{Lists, GrewBy}
+use Rattle.qd_path.specs.Lists.{Lists}
 use Rattle.qd_path.specs.Made.{Made, asked_in}
-use Rattle.qd_path.specs.Texts.{ReplyItem, items_in, text_of, sent, place_in, next_place, place_behind, quiet_after, quiet_of, is_idle}
+use Rattle.qd_path.specs.Texts.{ReplyItem, items_in, text_of, sent, place_in, next_place, quiet_after, is_idle}
 use Rattle.qd_replies.specs.declared.ends.OutFault.{OutFault}
-use Rattle.qd_replies.specs.declared.ends.OutFault.TheVariants as faults
-use Rattle.qd_replies.specs.declared.ends.OutTurn.{OutTurn}
 use Rattle.qd_replies.specs.declared.ends.OutTurn.TheVariants as turns
 use Rattle.qd_replies.specs.declared.out_engine.Tools.{Tools}
 use Rattle.qd_replies.specs.declared.out_engine.Answer.{Answer}
 use Rattle.qd_replies.specs.declared.out_engine.Answer.TheVariants.{Gave, Unwritten, Busy, Spent, Unlawful}
-use Rattle.qd_replies.specs.Outs.{Sunk, OutKept, OutStands, OutWent, OutSteps, call_of, collector_at, stripe_at, turn_of}
+use Rattle.qd_replies.specs.Outs.{Sunk, OutKept, OutStands, OutWent, OutSteps, asked_at, call_of, collector_at, stripe_at, turn_of}
 use Rattle.qd_replies.specs.Tools.{AllOutcome, tools_ready, turn_by, place_by, quiet_by, fault_in}
 
 -- the place in the round of a call
@@ -99,7 +97,7 @@ out_step defs n from k (Gave count) ready tools past l m flushed o w none within
       grew = grew;
       stands = record {
         round = (place_is n k.side (collector_at n k.at) (stripe_at n k.at) x asked ∙ place_at n k.at within ∙ stands.place, stands.round);
-        own = ((collector_at n k.at, stripe_at n k.at, asked), stands.own);
+        own = (asked ∙ ap (asked_at n k.side) stands.place, stands.own);
         place = ap (next_place n) stands.place;
         empties = ap (quiet_after n given) stands.empties;
         replies = Gained-more from o.written w.written (sent defs past) (text_of defs given) stands.replies writes.1.gained;
@@ -110,14 +108,16 @@ out_step defs n from k (Gave count) ready tools past l m flushed o w none within
       all_flushed = λ h. writes.2 (subst (λ (c : ℕ). 0 < c) (sym writes.0) h);
     } in
     rw (found back, turn, quiet, no_fault (is_idle n given k.quiet) (length given)) (as_step defs n from k next (is_idle n given k.quiet) (length given) past l m flushed o w went)
-out_step defs n from k Unwritten ready tools past l m flushed o w none within stands (x, asked, grew, writes) found = (
-  x,
-  grew,
-  (place_is n k.side (collector_at n k.at) (stripe_at n k.at) x asked ∙ place_at n k.at within ∙ stands.place, stands.round),
-  ((collector_at n k.at, stripe_at n k.at, asked), stands.own),
-  cut_behind defs from o.written w.written o.faults w.faults (sent defs past) (text_of defs (items_in x)) stands.replies writes,
-  refl,
-)
+out_step defs n from k Unwritten ready tools past l m flushed o w none within stands (x, asked, grew, writes) found = record {
+  call = x;
+  grew = grew;
+  round = (place_is n k.side (collector_at n k.at) (stripe_at n k.at) x asked ∙ place_at n k.at within ∙ stands.place, stands.round);
+  own = (asked ∙ ap (asked_at n k.side) stands.place, stands.own);
+  some = writes.0;
+  cut = writes.1;
+  whole = cut_behind defs from o.written w.written o.faults w.faults (sent defs past) (text_of defs (items_in x)) stands.replies writes.1;
+  ended = refl;
+}
 out_step defs n from k (Busy first found) ready tools past l m flushed o w none within stands (grew, busy, same, back) there =
     rw (there back) (grew, busy, ap (λ (e : Option OutFault). kept k.side k.at k.quiet e) (sym none), same)
 out_step defs n from k Spent ready tools past l m flushed o w none within stands (grew, spent, same) found = (grew, spent, same, refl)

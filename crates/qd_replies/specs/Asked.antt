@@ -1,5 +1,5 @@
 -- What an engine that writes asks of a stripe, and what it makes of the reply.
-use Rattle.std.specs.Prelude.{ℕ, ◌≡◌, ◌<◌, Bool, true, false, Option, Some, None, List, [], length, map}
+use Rattle.std.specs.Prelude.{ℕ, ◌≡◌, ◌<◌, Bool, true, false, Option, Some, None, List, [], length}
 use Rattle.qd_buffer.specs.Filled.{Filled}
 use Rattle.qd_outside.specs.Writing.{IsWritten, IsCutShort}
 use Rattle.qd_scheme.specs.declared.defs.RecordDef.{RecordDef}
@@ -15,7 +15,7 @@ use Rattle.qd_path.specs.declared.side.Side.{Side}
 use Rattle.qd_path.specs.declared.side.Side.TheVariants.{Down, Up}
 use Rattle.qd_path.specs.Texts.{ReplyItem, text_of}
 use Rattle.qd_replies.specs.declared.out_engine.Answer.{Answer}
-use Rattle.qd_replies.specs.declared.out_engine.Answer.TheVariants.{Gave, Unwritten, Busy, Spent, Unlawful}
+use Rattle.qd_replies.specs.declared.out_engine.Answer.TheVariants.{Gave, Unwritten, Unlawful}
 
 -- a buffer with room for 256 items, without items
 abbrev pub empty : {T : Type 0} → Filled T
@@ -50,7 +50,7 @@ plain_of _ = replies.NoMemory
 -- the text of these items was written and flushed, or cut short
 abbrev pub Writes : List RecordDef → List ReplyItem → Answer → Bool → Option (List ℕ) → Option (List ℕ) → ℕ → ℕ → Type 0
 Writes defs given (Gave count) flushed was now before after = (count ≡ length given) × IsWritten (text_of defs given) was now before after × (0 < count → flushed ≡ true)
-Writes defs given Unwritten flushed was now before after = IsCutShort (text_of defs given) was now before after
+Writes defs given Unwritten flushed was now before after = (0 < length given) × IsCutShort (text_of defs given) was now before after
 Writes defs given _ flushed was now before after = ⊥
 
 -- what became of a reply: one that has neither items nor wants is no lawful one

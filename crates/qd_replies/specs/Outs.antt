@@ -1,11 +1,8 @@
 -- What an engine that writes keeps, for which past it stands, and what a step of it does.
-use Rattle.std.specs.Prelude.{ℕ, ◌≡◌, ◌<◌, ◌+◌, ◌-◌, ◌*◌, nat_lt, if◌then◌else◌, Bool, true, false, Option, Some, None, List, [], ◌∷◌, length}
+use Rattle.std.specs.Prelude.{ℕ, ◌≡◌, ◌<◌, ◌+◌, ◌-◌, ◌*◌, nat_lt, if◌then◌else◌, Bool, true, Option, Some, None, List, [], ◌∷◌, length}
 use Rattle.qd_buffer.specs.Filled.{Filled}
-use Rattle.qd_outside.specs.Causes.{Rose}
-use Rattle.qd_outside.specs.Writing.{Gained, IsWritten, IsCutShort}
+use Rattle.qd_outside.specs.Writing.{Gained, IsCutShort}
 use Rattle.qd_scheme.specs.declared.defs.RecordDef.{RecordDef}
-use Rattle.qd_scheme.specs.declared.key.Record.{Record}
-use Rattle.qd_sub.specs.declared.op.Op.{Op}
 use Rattle.qd_sub.specs.declared.op.Reply.{Reply}
 use Rattle.qd_sub.specs.declared.op.Reply.TheVariants as replies
 use Rattle.qd_sub.specs.declared.sub.Want.{Want}
@@ -82,10 +79,18 @@ pub record OutKept : Type 0 where
 abbrev pub IsInRound : ℕ → OutKept → Type 0
 IsInRound n k = (k.at < 3 * n) × (k.quiet < 3 * n)
 
--- each call was that of the engine's round
+-- before the first call
+abbrev pub out_beginning : Side → OutKept
+out_beginning side = record { side = side; at = 0; quiet = 0; ended = None }
+
+-- the call of a place in the round
+abbrev pub asked_at : ℕ → Side → ℕ → Asked
+asked_at n side at = call_of side (collector_at n at) (stripe_at n at)
+
+-- each call was that of the place that came next, and asked for what is due to the other end of the link
 abbrev pub AreCalls : ℕ → Side → List Made → Type 0
 AreCalls n side [] = Unit {0}
-AreCalls n side (x ∷ before) = ((c : Collector) × (i : ℕ) × (asked_in x ≡ call_of side c i)) × AreCalls n side before
+AreCalls n side (x ∷ before) = (asked_in x ≡ asked_at n side (place_behind n before)) × AreCalls n side before
 
 -- an engine stands for the calls that it made, the newest first: they went round, and what was written since `from` are their replies
 pub record OutStands (defs : List RecordDef) (n : ℕ) (from : Option (List ℕ)) (k : OutKept) (past : List Made) (written : Option (List ℕ)) : Type 0 where
@@ -94,6 +99,21 @@ pub record OutStands (defs : List RecordDef) (n : ℕ) (from : Option (List ℕ)
   pub place : k.at ≡ place_behind n past
   pub empties : k.quiet ≡ quiet_of n past
   pub replies : Gained from written (sent defs past)
+
+-- a new engine stands for no call: nothing is written of any reply
+abbrev pub StandsForNothing : OutKept → Type 0
+StandsForNothing k = (defs : List RecordDef) (n : ℕ) (written : Option (List ℕ)) → OutStands defs n written k [] written × (0 < n → IsInRound n k)
+
+-- the stripe answered
+abbrev pub IsAnswered : Answer → Type 0
+IsAnswered (Busy first found) = ⊥
+IsAnswered Spent = ⊥
+IsAnswered _ = Unit {0}
+
+-- no other caller had a turn
+abbrev pub IsFree : OutTurn → Type 0
+IsFree (turns.Busy first found) = ⊥
+IsFree _ = Unit {0}
 
 -- the answer to a call: idle, where all stripes answered empty
 abbrev pub turn_of : ℕ → List ReplyItem → ℕ → OutTurn
@@ -109,13 +129,23 @@ pub record OutWent (defs : List RecordDef) (n : ℕ) (from : Option (List ℕ)) 
   pub same : w.faults ≡ o.faults
   pub all_flushed : 0 < length (items_in call) → flushed ≡ true
 
+-- a step made one call that was answered with items, and a first part of their text is written
+pub record OutCut (defs : List RecordDef) (n : ℕ) (from : Option (List ℕ)) (side : Side) (k' : OutKept) (past : List Made) (l m : Lists) (o w : Sunk) : Type 0 where
+  pub call : Made
+  pub grew : GrewBy n (call ∷ []) l m
+  pub round : GoRound n (call ∷ past)
+  pub own : AreCalls n side (call ∷ past)
+  pub some : 0 < length (items_in call)
+  pub cut : IsCutShort (text_of defs (items_in call)) o.written w.written o.faults w.faults
+  pub whole : IsCutShort (sent defs (call ∷ past)) from w.written o.faults w.faults
+  pub ended : k'.ended ≡ Some faults.WriteFault
+
 -- a step of an engine that has not ended
 abbrev pub OutSteps : List RecordDef → ℕ → Option (List ℕ) → OutKept → OutTurn → OutKept → List Made → Lists → Lists → Bool → Sunk → Sunk → Type 0
 OutSteps defs n from k (turns.Went count) k' past l m flushed o w = OutWent defs n from k (turns.Went count) k' past l m flushed o w
 OutSteps defs n from k turns.Idle k' past l m flushed o w = OutWent defs n from k turns.Idle k' past l m flushed o w
 OutSteps defs n from k (turns.Busy first found) k' past l m flushed o w =
     GrewBy n [] l m × IsBusyAt (collector_at n k.at) (stripe_at n k.at) first found l m × (k' ≡ k) × (w ≡ o)
-OutSteps defs n from k (turns.Ended faults.WriteFault) k' past l m flushed o w =
-    (x : Made) × GrewBy n (x ∷ []) l m × GoRound n (x ∷ past) × AreCalls n k.side (x ∷ past) × IsCutShort (sent defs (x ∷ past)) from w.written o.faults w.faults × (k'.ended ≡ Some faults.WriteFault)
+OutSteps defs n from k (turns.Ended faults.WriteFault) k' past l m flushed o w = OutCut defs n from k.side k' past l m o w
 OutSteps defs n from k (turns.Ended faults.Spent) k' past l m flushed o w =
     GrewBy n [] l m × IsSpentAt (collector_at n k.at) (stripe_at n k.at) l m × (w ≡ o) × (k'.ended ≡ Some faults.Spent)

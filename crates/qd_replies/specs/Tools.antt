@@ -1,6 +1,5 @@
 -- How an engine that writes goes on after an answer.
-use Rattle.std.specs.Prelude.{ℕ, ◌≡◌, ◌+◌, ◌*◌, nat_lt, nat_eq, if◌then◌else◌, Bool, true, false, Option, Some, None, List, [], ◌∷◌}
-use Rattle.qd_outside.specs.Writing.{IsWritten, IsCutShort}
+use Rattle.std.specs.Prelude.{ℕ, ◌≡◌, ◌+◌, ◌*◌, nat_lt, nat_eq, if◌then◌else◌, Bool, true, Option, Some, None, List, [], ◌∷◌}
 use Rattle.qd_scheme.specs.declared.defs.RecordDef.{RecordDef}
 use Rattle.qd_path.specs.declared.side.Side.{Side}
 use Rattle.qd_path.specs.Lists.{Lists, GrewBy, IsBusyAt, IsSpentAt}
@@ -14,7 +13,7 @@ use Rattle.qd_replies.specs.declared.out_engine.Tools.{Tools}
 use Rattle.qd_replies.specs.declared.out_engine.Answer.{Answer}
 use Rattle.qd_replies.specs.declared.out_engine.Answer.TheVariants.{Gave, Unwritten, Busy, Spent, Unlawful}
 use Rattle.qd_replies.specs.Asked.{empty, Writes}
-use Rattle.qd_replies.specs.Outs.{Sunk, call_of, collector_at, stripe_at}
+use Rattle.qd_replies.specs.Outs.{Sunk, asked_at, collector_at, stripe_at}
 
 -- all buffers are there, and nothing is held back
 abbrev pub tools_ready : Tools
@@ -23,9 +22,9 @@ tools_ready = record { records = Some empty; items = Some empty; events = Some e
 -- the stripe at a place in the round was asked
 abbrev pub AllOutcome : List RecordDef → ℕ → Side → ℕ → Answer → Lists → Lists → Bool → Sunk → Sunk → Tools → Type 0
 AllOutcome defs n side at (Gave count) l m flushed o w tools =
-    (x : Made) × (asked_in x ≡ call_of side (collector_at n at) (stripe_at n at)) × GrewBy n (x ∷ []) l m × Writes defs (items_in x) (Gave count) flushed o.written w.written o.faults w.faults × (tools ≡ tools_ready)
+    (x : Made) × (asked_in x ≡ asked_at n side at) × GrewBy n (x ∷ []) l m × Writes defs (items_in x) (Gave count) flushed o.written w.written o.faults w.faults × (tools ≡ tools_ready)
 AllOutcome defs n side at Unwritten l m flushed o w tools =
-    (x : Made) × (asked_in x ≡ call_of side (collector_at n at) (stripe_at n at)) × GrewBy n (x ∷ []) l m × Writes defs (items_in x) Unwritten flushed o.written w.written o.faults w.faults
+    (x : Made) × (asked_in x ≡ asked_at n side at) × GrewBy n (x ∷ []) l m × Writes defs (items_in x) Unwritten flushed o.written w.written o.faults w.faults
 AllOutcome defs n side at (Busy first found) l m flushed o w tools = GrewBy n [] l m × IsBusyAt (collector_at n at) (stripe_at n at) first found l m × (w ≡ o) × (tools ≡ tools_ready)
 AllOutcome defs n side at Spent l m flushed o w tools = GrewBy n [] l m × IsSpentAt (collector_at n at) (stripe_at n at) l m × (w ≡ o)
 AllOutcome defs n side at Unlawful l m flushed o w tools = ⊥

@@ -11,8 +11,10 @@ mod asking;
 mod buffers;
 mod ends;
 mod fits;
+mod held;
 mod out_engine;
 mod output;
+mod printers;
 
 pub use ends::{OutFault, OutTurn};
 pub use out_engine::OutEngine;

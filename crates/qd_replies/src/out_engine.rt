@@ -12,24 +12,23 @@ ghost use Rattle.qd_replies.specs.declared.ends.OutFault.{OutFault};
 ghost use Rattle.qd_replies.specs.declared.ends.OutTurn.TheVariants as turns;
 ghost use Rattle.qd_replies.specs.Tools.{AllOutcome, tools_ready, turn_by, place_by, quiet_by, fault_in};
 ghost use Rattle.qd_replies.specs.Asked.{Tells, Writes, plain_of, empty};
-ghost use Rattle.qd_replies.specs.Outs.{Holds, Backs, Outcome, OutKept, IsInRound, OutStands, OutSteps, collector_at, stripe_at};
+ghost use Rattle.qd_replies.specs.Outs.{Holds, Backs, Outcome, OutKept, IsInRound, OutStands, OutSteps, StandsForNothing, IsAnswered, IsFree, out_beginning};
 
 use crate::asking::{ask_history, ask_stream, ask_ticker};
 use crate::buffers::{MOST, is_there, keep, op_of, take_back};
 use crate::ends::{OutFault, OutTurn};
-use crate::output::{
-    Events, HistoryWants, Items, Output, Printer, Records, StreamWants, TickerWants,
-};
+use crate::output::Output;
+use crate::printers::{Events, HistoryWants, Items, Printer, Records, StreamWants, TickerWants};
 use qd_buffer::Buffer;
 use qd_history::{HistItem, HistoryReply};
 use qd_gate::NoTurn;
 use qd_hub::Hub;
 use qd_outside::Sink;
 use qd_path::Side;
-use qd_scheme::{Event, Record, Scheme};
+use qd_scheme::{Event, NoMemory, Record, Scheme};
 use qd_stream::StreamItem;
 use qd_sub::{Reply, Want};
-use std::alloc::{AllocError, Global};
+use std::alloc::Global;
 use std::marker::Model;
 
 /// What one stripe answered.
@@ -125,6 +124,7 @@ fn give_ticker<H: Hub, K: Sink>(
     requires wants { wants.old ≡ Some empty }
     requires held { output.old ≡ [] }
     ensures same { (H.home hub.new ≡ H.home hub.old) × (H.stripes hub.new ≡ H.stripes hub.old) }
+    ensures alone { H.is_alone hub.old → H.is_alone hub.new × IsAnswered result }
     ensures held { Holds result output.new }
     ensures outcome { (l : Lists) → AreOf (H.stripes hub.old) (H.ticker hub.old) (H.stream hub.old) (H.history hub.old) l
         → (m : Lists) × AreOf (H.stripes hub.old) (H.ticker hub.new) (H.stream hub.new) (H.history hub.new) m
@@ -157,6 +157,7 @@ fn give_stream<H: Hub, K: Sink>(
     requires wants { wants.old ≡ Some empty }
     requires held { output.old ≡ [] }
     ensures same { (H.home hub.new ≡ H.home hub.old) × (H.stripes hub.new ≡ H.stripes hub.old) }
+    ensures alone { H.is_alone hub.old → H.is_alone hub.new × IsAnswered result }
     ensures held { Holds result output.new }
     ensures outcome { (l : Lists) → AreOf (H.stripes hub.old) (H.ticker hub.old) (H.stream hub.old) (H.history hub.old) l
         → (m : Lists) × AreOf (H.stripes hub.old) (H.ticker hub.new) (H.stream hub.new) (H.history hub.new) m
@@ -189,6 +190,7 @@ fn give_history<H: Hub, K: Sink>(
     requires wants { wants.old ≡ Some empty }
     requires held { output.old ≡ [] }
     ensures same { (H.home hub.new ≡ H.home hub.old) × (H.stripes hub.new ≡ H.stripes hub.old) }
+    ensures alone { H.is_alone hub.old → H.is_alone hub.new × IsAnswered result }
     ensures held { Holds result output.new }
     ensures outcome { (l : Lists) → AreOf (H.stripes hub.old) (H.ticker hub.old) (H.stream hub.old) (H.history hub.old) l
         → (m : Lists) × AreOf (H.stripes hub.old) (H.ticker hub.new) (H.stream hub.new) (H.history hub.new) m
@@ -230,7 +232,8 @@ fn are_ready(tools: &Tools) -> bool
 fn turn_by(n: u8, answer: Answer, ready: bool, quiet: u8) -> OutTurn
     requires count { IsStripeCount n }
     requires quiet { quiet < 3 * n }
-    ensures { result ≡ turn_by n answer ready quiet }
+    ensures turn { result ≡ turn_by n answer ready quiet }
+    ensures free { IsAnswered answer → IsFree result }
 {
     match answer {
         Answer::Gave(count) if ready => {
@@ -301,6 +304,7 @@ fn give<H: Hub, K: Sink>(
     requires place { at < 3 * n }
     requires tools { tools.old ≡ tools_ready }
     ensures same { (H.home hub.new ≡ H.home hub.old) × (H.stripes hub.new ≡ H.stripes hub.old) }
+    ensures alone { H.is_alone hub.old → H.is_alone hub.new × IsAnswered result }
     ensures held { Holds result tools.new.output }
     ensures outcome { (l : Lists) → AreOf (H.stripes hub.old) (H.ticker hub.old) (H.stream hub.old) (H.history hub.old) l
         → (m : Lists) × AreOf (H.stripes hub.old) (H.ticker hub.new) (H.stream hub.new) (H.history hub.new) m
@@ -376,8 +380,9 @@ impl Model for OutEngine {
 
 impl OutEngine {
     /// Before the first call.
-    pub fn new(alloc: Global, side: Side) -> Result<OutEngine, AllocError>
-        ensures { IfOk result (λ e. e ≡ record { side = side; at = 0; quiet = 0; ended = None }) }
+    pub fn new(alloc: Global, side: Side) -> Result<OutEngine, NoMemory>
+        ensures made { IfOk result (λ e. e ≡ out_beginning side) }
+        ensures stands { IfOk result StandsForNothing }
     {
         Ok(OutEngine {
             side,
@@ -389,7 +394,7 @@ impl OutEngine {
                 items: Some(Buffer::with_room(alloc, MOST)?),
                 events: Some(Buffer::with_room(alloc, MOST)?),
                 wants: Some(Buffer::with_room(alloc, MOST)?),
-                output: Output::new(alloc),
+                output: Output::new(alloc)?,
             },
         })
     }
@@ -407,6 +412,7 @@ impl OutEngine {
         ensures same { (H.home hub.new ≡ H.home hub.old) × (H.stripes hub.new ≡ H.stripes hub.old) × (self.new.side ≡ self.old.side) }
         // After a fault nothing happens any more.
         ensures again { (fault : OutFault) → self.old.ended ≡ Some fault → (result ≡ turns.Ended fault) × (self.new ≡ self.old) × (hub.new ≡ hub.old) × (sink.new ≡ sink.old) }
+        ensures alone { H.is_alone hub.old → H.is_alone hub.new × IsFree result }
         // For whatever calls the engine stands, and for whatever lists the hub.
         ensures step { (from : Option (List ℕ)) (past : List Made) (l : Lists) → self.old.ended ≡ None
             → OutStands scheme.now (H.stripes hub.old) from self.old past (K.written sink.old)

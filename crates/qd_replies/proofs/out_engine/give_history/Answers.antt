@@ -1,6 +1,5 @@
-use Rattle.std.proofs.Common.{ap, refl, subst}
+use Rattle.std.proofs.Common.{ap}
 use Rattle.qd_grammar.specs.declared.item.Collector.TheVariants as collectors
-use Rattle.qd_path.specs.declared.call.Asked.{Asked}
 use Rattle.qd_path.specs.declared.call.Call.TheVariants as calls
 use Rattle.qd_path.specs.Made.{Made}
 use Rattle.qd_replies.proofs.Giving.{history_lawful, history_given, gave}

@@ -1,5 +1,4 @@
-use Rattle.std.proofs.Common.{ap, refl}
-use Rattle.qd_path.specs.declared.call.Asked.{Asked}
+use Rattle.std.proofs.Common.{ap}
 use Rattle.qd_path.specs.declared.call.Call.TheVariants as calls
 use Rattle.qd_grammar.specs.declared.item.Collector.TheVariants as collectors
 use Rattle.qd_path.specs.Made.{Made}

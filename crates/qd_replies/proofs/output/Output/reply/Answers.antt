@@ -1,8 +1,6 @@
-use Rattle.std.proofs.Common.{map, None, ◌++◌, ◌≡◌, ℕ, length, refl, sym, ◌∙◌, arith}
-use Rattle.std.proofs.lemmas.List.{append-nil}
-use Rattle.qd_outside.proofs.Streams.{Gained-none}
+use Rattle.std.proofs.Common.{map, None, sym, ◌∙◌}
 use Rattle.qd_grammar.specs.declared.item.Item.TheVariants.{Heartbeat}
-use Rattle.qd_path.specs.Texts.{items_text, line_of, text_of}
+use Rattle.qd_path.specs.Texts.{items_text, line_of}
 use Rattle.qd_replies.proofs.Prints.{printed_more, printed_less, some_text, no_text}
 use Rattle.qd_replies.proofs.output.Output.reply.Goals as goal
 
