@@ -1,5 +1,5 @@
 -- A stripe answers what it is asked.
-use Rattle.std.proofs.Common.{ℕ, ◌≡◌, ⊎_elim, Bool, true, false, Option, List, [], ◌∷◌, ◌++◌, refl, ap, ◌∙◌, subst}
+use Rattle.std.proofs.Common.{ℕ, ◌≡◌, ⊎_elim, Bool, Option, List, [], ◌∷◌, ◌++◌, refl, ap, subst}
 use Rattle.qd_buffer.specs.Filled.{Filled}
 use Rattle.qd_gate.specs.declared.machine.Entry.{Entry}
 use Rattle.qd_gate.specs.declared.machine.Terms.{Terms}
@@ -23,9 +23,9 @@ use Rattle.qd_path.specs.Made.{Made, asked_in}
 use Rattle.qd_path.specs.Texts.{items_in, reply_items, history_items, history_item, history_want_item}
 use Rattle.qd_hist_rules.specs.declared.reply.HistoryReply.TheVariants as events
 use Rattle.qd_replies.specs.declared.out_engine.Answer.{Answer}
-use Rattle.qd_replies.specs.declared.out_engine.Answer.TheVariants.{Gave, Unwritten, Busy, Spent, Unlawful}
-use Rattle.qd_replies.specs.Asked.{out_op, lent_given, lent_wants, is_given, plain_of, Tells}
-use Rattle.qd_replies.specs.Outs.{Sunk, call_of, IsBack, Holds, Backs, Outcome}
+use Rattle.qd_replies.specs.declared.out_engine.Answer.TheVariants.{Gave, Unwritten, Busy, Spent}
+use Rattle.qd_replies.specs.Asked.{out_op, lent_given, lent_wants, plain_of, IsInLent, Writes}
+use Rattle.qd_replies.specs.Outs.{Sunk, call_of, Outcome}
 
 -- the last entry of a legal log follows entries before it
 last_follows : {O R : Type 0} (follows : List (Entry O R) → Entry O R → Type 0) (before log : List (Entry O R)) (e : Entry O R)
@@ -58,28 +58,18 @@ unfolding history.Follows history.IsLawful history.refusal
 history_lawful (Down agent) p reply q a = ⊎_elim (λ e. (e.0, ap plain_of e.1)) (λ w. absurd w.0) (last_of history.Follows p (out_op (Down agent)) reply q a).1
 history_lawful (Up watcher) p reply q a = ⊎_elim (λ e. (_, ap plain_of e)) (λ w. absurd w.0) (last_of history.Follows p (out_op (Up watcher)) reply q a).1
 
-is_back : {T : Type 0} (side : Side) (reply : Reply T) (given given' : Option (Filled T)) (wants wants' : Option (Filled Want)) (held : List ℕ) → IsLawfulReply side reply → Backs reply given given' wants wants'
-    → given ≡ lent_given side → wants ≡ lent_wants side → held ≡ [] → IsBack given' wants' held
-is_back (Down agent) reply given given' wants wants' held (xs, e) b eg ew h = let b' = rw e at b in record { given_back = b'.0 refl; wants_back = b'.1 ∙ ew; written = h }
-is_back (Up watcher) reply given given' wants wants' held (xs, e) b eg ew h = let b' = rw e at b in record { given_back = b'.1 ∙ eg; wants_back = b'.0 refl; written = h }
-
-lawful_given : {T : Type 0} (side : Side) (reply : Reply T) → IsLawfulReply side reply → is_given reply ≡ true
-lawful_given (Down agent) reply (xs, e) = rw e refl
-lawful_given (Up watcher) reply (xs, e) = rw e refl
-
-not_both : {b : Bool} → b ≡ true → b ≡ false → ⊥
-not_both p q = cc
+-- so it came in the buffer that was lent, and the other one is there
+pub in_lent : {T : Type 0} (side : Side) (reply : Reply T) (given : Option (Filled T)) (wants : Option (Filled Want)) → IsLawfulReply side reply → given ≡ lent_given side → wants ≡ lent_wants side → IsInLent reply given wants
+in_lent (Down agent) reply given wants (xs, e) eg ew = rw e (refl, ew)
+in_lent (Up watcher) reply given wants (xs, e) eg ew = rw e (refl, eg)
 
 -- an answered call gave what it gave
-pub gave : {T : Type 0} (defs : List RecordDef) (n : ℕ) (side : Side) (c : Collector) (i : ℕ) (answer : Answer) (x : Made) (reply : Reply T) (l m : Lists) (flushed : Bool) (o w : Sunk) (given given' : Option (Filled T)) (wants wants' : Option (Filled Want)) (held : List ℕ)
-    → asked_in x ≡ call_of side c i → GrewBy n (x ∷ []) l m → IsLawfulReply side reply → Tells defs reply (items_in x) answer flushed o.written w.written o.faults w.faults
-    → Backs reply given given' wants wants' → given ≡ lent_given side → wants ≡ lent_wants side → Holds answer held → Outcome defs n side c i answer l m flushed o w given' wants' held
-gave defs n side c i (Gave count) x reply l m flushed o w given given' wants wants' held asked grew lawful tells backs eg ew h =
-    (x, asked, grew, tells, is_back side reply given given' wants wants' held lawful backs eg ew h)
-gave defs n side c i Unwritten x reply l m flushed o w given given' wants wants' held asked grew lawful tells backs eg ew h = (x, asked, grew, tells)
-gave defs n side c i (Busy first found) x reply l m flushed o w given given' wants wants' held asked grew lawful tells backs eg ew h = absurd tells
-gave defs n side c i Spent x reply l m flushed o w given given' wants wants' held asked grew lawful tells backs eg ew h = absurd tells
-gave defs n side c i Unlawful x reply l m flushed o w given given' wants wants' held asked grew lawful tells backs eg ew h = absurd (not_both (lawful_given side reply lawful) tells)
+pub gave : (defs : List RecordDef) (n : ℕ) (side : Side) (c : Collector) (i : ℕ) (answer : Answer) (x : Made) (l m : Lists) (flushed : Bool) (o w : Sunk)
+    → asked_in x ≡ call_of side c i → GrewBy n (x ∷ []) l m → Writes defs (items_in x) answer flushed o.written w.written o.faults w.faults → Outcome defs n side c i answer l m flushed o w
+gave defs n side c i (Gave count) x l m flushed o w asked grew writes = (x, asked, grew, writes)
+gave defs n side c i Unwritten x l m flushed o w asked grew writes = (x, asked, grew, writes)
+gave defs n side c i (Busy first found) x l m flushed o w asked grew writes = absurd writes
+gave defs n side c i Spent x l m flushed o w asked grew writes = absurd writes
 
 -- the items of a reply of the history
 pub history_given : (reply : HistoryReply) → reply_items history_item history_want_item (plain_of reply) ≡ history_items reply

@@ -16,11 +16,10 @@ use Rattle.qd_path.specs.Made.{Made, asked_in}
 use Rattle.qd_path.specs.Texts.{ReplyItem, items_in, text_of, sent, place_in, next_place, quiet_after, is_idle}
 use Rattle.qd_replies.specs.declared.ends.OutFault.{OutFault}
 use Rattle.qd_replies.specs.declared.ends.OutTurn.TheVariants as turns
-use Rattle.qd_replies.specs.declared.out_engine.Tools.{Tools}
 use Rattle.qd_replies.specs.declared.out_engine.Answer.{Answer}
-use Rattle.qd_replies.specs.declared.out_engine.Answer.TheVariants.{Gave, Unwritten, Busy, Spent, Unlawful}
-use Rattle.qd_replies.specs.Outs.{Sunk, OutKept, OutStands, OutWent, OutSteps, asked_at, call_of, collector_at, stripe_at, turn_of}
-use Rattle.qd_replies.specs.Tools.{AllOutcome, tools_ready, turn_by, place_by, quiet_by, fault_in}
+use Rattle.qd_replies.specs.declared.out_engine.Answer.TheVariants.{Gave, Unwritten, Busy, Spent}
+use Rattle.qd_replies.specs.Outs.{Sunk, Outcome, OutKept, OutStands, OutWent, OutSteps, asked_at, call_of, collector_at, stripe_at, turn_of}
+use Rattle.qd_replies.specs.Tools.{turn_by, place_by, quiet_by, fault_in}
 
 -- the place in the round of a call
 abbrev place_of_call : ℕ → Collector → ℕ → ℕ
@@ -50,7 +49,7 @@ place_at n at h = go (nat_lt at n) (nat_lt at (n + n)) refl refl
 some_longer : {X : Type 0} (x : X) (xs : List X) (count : ℕ) → count ≡ length (x ∷ xs) → nat_lt 0 count ≡ true
 some_longer x xs count e = let n : 0 < count = omega (arith, e) in grind (arith, nat_tests)
 
-turn_same : (n quiet count : ℕ) (given : List ReplyItem) → count ≡ length given → turn_by n (Gave count) true quiet ≡ turn_of n given quiet
+turn_same : (n quiet count : ℕ) (given : List ReplyItem) → count ≡ length given → turn_by n (Gave count) quiet ≡ turn_of n given quiet
 turn_same n quiet count [] e = rw e refl
 turn_same n quiet count (x ∷ xs) e = rw (some_longer x xs count e) (ap (λ (c : ℕ). turns.Went c) e)
 
@@ -68,8 +67,8 @@ as_step defs n from k k' true count past l m flushed o w h = h
 as_step defs n from k k' false count past l m flushed o w h = h
 
 -- the engine behind an answer
-abbrev behind : ℕ → OutKept → Answer → Bool → OutKept
-behind n k answer ready = record { side = k.side; at = place_by n answer k.at; quiet = quiet_by n answer k.quiet; ended = fault_in (turn_by n answer ready k.quiet) }
+abbrev behind : ℕ → OutKept → Answer → OutKept
+behind n k answer = record { side = k.side; at = place_by n answer k.at; quiet = quiet_by n answer k.quiet; ended = fault_in (turn_by n answer k.quiet) }
 
 abbrev kept : Side → ℕ → ℕ → Option OutFault → OutKept
 kept side at quiet ended = record { side = side; at = at; quiet = quiet; ended = ended }
@@ -84,12 +83,12 @@ cut_behind defs from was now before after a b g c = record {
   later = c.later;
 }
 
-pub out_step : (defs : List RecordDef) (n : ℕ) (from : Option (List ℕ)) (k : OutKept) (answer : Answer) (ready : Bool) (tools : Tools) (past : List Made) (l m : Lists) (flushed : Bool) (o w : Sunk)
-    → k.ended ≡ None → k.at < 3 * n → OutStands defs n from k past o.written → AllOutcome defs n k.side k.at answer l m flushed o w tools → (tools ≡ tools_ready → ready ≡ true)
-    → OutSteps defs n from k (turn_by n answer ready k.quiet) (behind n k answer ready) past l m flushed o w
-out_step defs n from k (Gave count) ready tools past l m flushed o w none within stands (x, asked, grew, writes, back) found =
+pub out_step : (defs : List RecordDef) (n : ℕ) (from : Option (List ℕ)) (k : OutKept) (answer : Answer) (past : List Made) (l m : Lists) (flushed : Bool) (o w : Sunk)
+    → k.ended ≡ None → k.at < 3 * n → OutStands defs n from k past o.written → Outcome defs n k.side (collector_at n k.at) (stripe_at n k.at) answer l m flushed o w
+    → OutSteps defs n from k (turn_by n answer k.quiet) (behind n k answer) past l m flushed o w
+out_step defs n from k (Gave count) past l m flushed o w none within stands (x, asked, grew, writes) =
     let given = items_in x in
-    let turn : turn_by n (Gave count) true k.quiet ≡ turn_of n given k.quiet = turn_same n k.quiet count given writes.0 in
+    let turn : turn_by n (Gave count) k.quiet ≡ turn_of n given k.quiet = turn_same n k.quiet count given writes.0 in
     let quiet : quiet_by n (Gave count) k.quiet ≡ quiet_after n given k.quiet = quiet_same n k.quiet count given writes.0 in
     let next : OutKept = kept k.side (next_place n k.at) (quiet_after n given k.quiet) None in
     let went : OutWent defs n from k (turn_of n given k.quiet) next past l m flushed o w = record {
@@ -107,8 +106,8 @@ out_step defs n from k (Gave count) ready tools past l m flushed o w none within
       same = writes.1.same;
       all_flushed = λ h. writes.2 (subst (λ (c : ℕ). 0 < c) (sym writes.0) h);
     } in
-    rw (found back, turn, quiet, no_fault (is_idle n given k.quiet) (length given)) (as_step defs n from k next (is_idle n given k.quiet) (length given) past l m flushed o w went)
-out_step defs n from k Unwritten ready tools past l m flushed o w none within stands (x, asked, grew, writes) found = record {
+    rw (turn, quiet, no_fault (is_idle n given k.quiet) (length given)) (as_step defs n from k next (is_idle n given k.quiet) (length given) past l m flushed o w went)
+out_step defs n from k Unwritten past l m flushed o w none within stands (x, asked, grew, writes) = record {
   call = x;
   grew = grew;
   round = (place_is n k.side (collector_at n k.at) (stripe_at n k.at) x asked ∙ place_at n k.at within ∙ stands.place, stands.round);
@@ -118,7 +117,5 @@ out_step defs n from k Unwritten ready tools past l m flushed o w none within st
   whole = cut_behind defs from o.written w.written o.faults w.faults (sent defs past) (text_of defs (items_in x)) stands.replies writes.1;
   ended = refl;
 }
-out_step defs n from k (Busy first found) ready tools past l m flushed o w none within stands (grew, busy, same, back) there =
-    rw (there back) (grew, busy, ap (λ (e : Option OutFault). kept k.side k.at k.quiet e) (sym none), same)
-out_step defs n from k Spent ready tools past l m flushed o w none within stands (grew, spent, same) found = (grew, spent, same, refl)
-out_step defs n from k Unlawful ready tools past l m flushed o w none within stands h found = absurd h
+out_step defs n from k (Busy first found) past l m flushed o w none within stands (grew, busy, same) = (grew, busy, ap (λ (e : Option OutFault). kept k.side k.at k.quiet e) (sym none), same)
+out_step defs n from k Spent past l m flushed o w none within stands (grew, spent, same) = (grew, spent, same, refl)

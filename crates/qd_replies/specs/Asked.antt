@@ -1,5 +1,5 @@
 -- What an engine that writes asks of a stripe, and what it makes of the reply.
-use Rattle.std.specs.Prelude.{ℕ, ◌≡◌, ◌<◌, Bool, true, false, Option, Some, None, List, [], length}
+use Rattle.std.specs.Prelude.{ℕ, ◌≡◌, ◌<◌, Bool, true, Option, Some, None, List, [], length}
 use Rattle.qd_buffer.specs.Filled.{Filled}
 use Rattle.qd_outside.specs.Writing.{IsWritten, IsCutShort}
 use Rattle.qd_scheme.specs.declared.defs.RecordDef.{RecordDef}
@@ -15,7 +15,7 @@ use Rattle.qd_path.specs.declared.side.Side.{Side}
 use Rattle.qd_path.specs.declared.side.Side.TheVariants.{Down, Up}
 use Rattle.qd_path.specs.Texts.{ReplyItem, text_of}
 use Rattle.qd_replies.specs.declared.out_engine.Answer.{Answer}
-use Rattle.qd_replies.specs.declared.out_engine.Answer.TheVariants.{Gave, Unwritten, Unlawful}
+use Rattle.qd_replies.specs.declared.out_engine.Answer.TheVariants.{Gave, Unwritten}
 
 -- a buffer with room for 256 items, without items
 abbrev pub empty : {T : Type 0} → Filled T
@@ -35,11 +35,11 @@ abbrev pub lent_wants : Side → Option (Filled Want)
 lent_wants (Down agent) = Some empty
 lent_wants (Up watcher) = None
 
--- the reply has items or wants
-abbrev pub is_given : {T : Type 0} → Reply T → Bool
-is_given (replies.Items items) = true
-is_given (replies.Wants wants) = true
-is_given _ = false
+-- the reply has items or wants, in the buffer that was lent, and the other one is there
+abbrev pub IsInLent : {T : Type 0} → Reply T → Option (Filled T) → Option (Filled Want) → Type 0
+IsInLent (replies.Items items) given wants = (items.room ≡ 256) × (wants ≡ Some empty)
+IsInLent (replies.Wants items) given wants = (items.room ≡ 256) × (given ≡ Some empty)
+IsInLent _ given wants = ⊥
 
 -- a reply of the history as one of the others; of a refusal nothing is told
 abbrev pub plain_of : HistoryReply → Reply HistItem
@@ -52,8 +52,3 @@ abbrev pub Writes : List RecordDef → List ReplyItem → Answer → Bool → Op
 Writes defs given (Gave count) flushed was now before after = (count ≡ length given) × IsWritten (text_of defs given) was now before after × (0 < count → flushed ≡ true)
 Writes defs given Unwritten flushed was now before after = (0 < length given) × IsCutShort (text_of defs given) was now before after
 Writes defs given _ flushed was now before after = ⊥
-
--- what became of a reply: one that has neither items nor wants is no lawful one
-abbrev pub Tells : {T : Type 0} → List RecordDef → Reply T → List ReplyItem → Answer → Bool → Option (List ℕ) → Option (List ℕ) → ℕ → ℕ → Type 0
-Tells defs reply given Unlawful flushed was now before after = is_given reply ≡ false
-Tells defs reply given answer flushed was now before after = Writes defs given answer flushed was now before after

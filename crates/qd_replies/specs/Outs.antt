@@ -1,11 +1,7 @@
 -- What an engine that writes keeps, for which past it stands, and what a step of it does.
 use Rattle.std.specs.Prelude.{ℕ, ◌≡◌, ◌<◌, ◌+◌, ◌-◌, ◌*◌, nat_lt, if◌then◌else◌, Bool, true, Option, Some, None, List, [], ◌∷◌, length}
-use Rattle.qd_buffer.specs.Filled.{Filled}
 use Rattle.qd_outside.specs.Writing.{Gained, IsCutShort}
 use Rattle.qd_scheme.specs.declared.defs.RecordDef.{RecordDef}
-use Rattle.qd_sub.specs.declared.op.Reply.{Reply}
-use Rattle.qd_sub.specs.declared.op.Reply.TheVariants as replies
-use Rattle.qd_sub.specs.declared.sub.Want.{Want}
 use Rattle.qd_grammar.specs.declared.item.Collector.{Collector}
 use Rattle.qd_grammar.specs.declared.item.Collector.TheVariants.{Ticker, Stream, History}
 use Rattle.qd_path.specs.declared.call.Asked.{Asked}
@@ -19,8 +15,8 @@ use Rattle.qd_replies.specs.declared.ends.OutFault.TheVariants as faults
 use Rattle.qd_replies.specs.declared.ends.OutTurn.{OutTurn}
 use Rattle.qd_replies.specs.declared.ends.OutTurn.TheVariants as turns
 use Rattle.qd_replies.specs.declared.out_engine.Answer.{Answer}
-use Rattle.qd_replies.specs.declared.out_engine.Answer.TheVariants.{Gave, Unwritten, Busy, Spent, Unlawful}
-use Rattle.qd_replies.specs.Asked.{out_op, empty, Writes}
+use Rattle.qd_replies.specs.declared.out_engine.Answer.TheVariants.{Unwritten, Busy, Spent}
+use Rattle.qd_replies.specs.Asked.{out_op, Writes}
 
 -- the collector and the stripe at a place in the round
 abbrev pub collector_at : ℕ → ℕ → Collector
@@ -35,23 +31,10 @@ call_of side Ticker i = record { stripe = i; call = calls.Ticker (out_op side) }
 call_of side Stream i = record { stripe = i; call = calls.Stream (out_op side) }
 call_of side History i = record { stripe = i; call = calls.History (out_op side) }
 
--- the buffers came back, and nothing is held back
-pub record IsBack {T : Type 0} (given : Option (Filled T)) (wants : Option (Filled Want)) (held : List ℕ) : Type 0 where
-  pub given_back : given ≡ Some empty
-  pub wants_back : wants ≡ Some empty
-  pub written : held ≡ []
-
--- after an answer that gave, nothing is held back
-abbrev pub Holds : Answer → List ℕ → Type 0
-Holds (Gave count) held = held ≡ []
-Holds (Busy first found) held = held ≡ []
-Holds _ held = Unit {0}
-
--- which buffer came back with a reply
-abbrev pub Backs : {T : Type 0} → Reply T → Option (Filled T) → Option (Filled T) → Option (Filled Want) → Option (Filled Want) → Type 0
-Backs (replies.Items items) given given' wants wants' = (items.room ≡ 256 → given' ≡ Some empty) × (wants' ≡ wants)
-Backs (replies.Wants items) given given' wants wants' = (items.room ≡ 256 → wants' ≡ Some empty) × (given' ≡ given)
-Backs _ given given' wants wants' = Unit {0}
+-- nothing was left unwritten
+abbrev pub IsWhole : Answer → Type 0
+IsWhole Unwritten = ⊥
+IsWhole _ = Unit {0}
 
 -- what a sink tells
 pub record Sunk : Type 0 where
@@ -59,14 +42,11 @@ pub record Sunk : Type 0 where
   pub faults : ℕ
 
 -- one stripe was asked: it gave, and the text is written, or cut short; or another caller had a turn; or it is spent
-abbrev pub Outcome : {T : Type 0} → List RecordDef → ℕ → Side → Collector → ℕ → Answer → Lists → Lists → Bool → Sunk → Sunk → Option (Filled T) → Option (Filled Want) → List ℕ → Type 0
-Outcome defs n side c i (Gave count) l m flushed o w given wants held =
-    (x : Made) × (asked_in x ≡ call_of side c i) × GrewBy n (x ∷ []) l m × Writes defs (items_in x) (Gave count) flushed o.written w.written o.faults w.faults × IsBack given wants held
-Outcome defs n side c i Unwritten l m flushed o w given wants held =
-    (x : Made) × (asked_in x ≡ call_of side c i) × GrewBy n (x ∷ []) l m × Writes defs (items_in x) Unwritten flushed o.written w.written o.faults w.faults
-Outcome defs n side c i (Busy first found) l m flushed o w given wants held = GrewBy n [] l m × IsBusyAt c i first found l m × (w ≡ o) × IsBack given wants held
-Outcome defs n side c i Spent l m flushed o w given wants held = GrewBy n [] l m × IsSpentAt c i l m × (w ≡ o)
-Outcome defs n side c i Unlawful l m flushed o w given wants held = ⊥
+abbrev pub Outcome : List RecordDef → ℕ → Side → Collector → ℕ → Answer → Lists → Lists → Bool → Sunk → Sunk → Type 0
+Outcome defs n side c i (Busy first found) l m flushed o w = GrewBy n [] l m × IsBusyAt c i first found l m × (w ≡ o)
+Outcome defs n side c i Spent l m flushed o w = GrewBy n [] l m × IsSpentAt c i l m × (w ≡ o)
+Outcome defs n side c i answer l m flushed o w =
+    (x : Made) × (asked_in x ≡ call_of side c i) × GrewBy n (x ∷ []) l m × Writes defs (items_in x) answer flushed o.written w.written o.faults w.faults
 
 -- what an engine keeps: its side, the place in the round, how many stripes in a row answered empty, and the fault that ended it
 pub record OutKept : Type 0 where
@@ -110,9 +90,10 @@ IsAnswered (Busy first found) = ⊥
 IsAnswered Spent = ⊥
 IsAnswered _ = Unit {0}
 
--- no other caller had a turn
+-- the stripe was asked
 abbrev pub IsFree : OutTurn → Type 0
 IsFree (turns.Busy first found) = ⊥
+IsFree (turns.Ended faults.Spent) = ⊥
 IsFree _ = Unit {0}
 
 -- the answer to a call: idle, where all stripes answered empty

@@ -1,8 +1,10 @@
 -- How one call of a hub turned out.
-use Rattle.std.specs.Prelude.{ℕ, Result, Ok, Err, [], ◌∷◌}
+use Rattle.std.specs.Prelude.{ℕ, Result, Ok, Err, List, [], ◌∷◌}
 use Rattle.qd_gate.specs.declared.gate.NoTurn.{NoTurn}
 use Rattle.qd_gate.specs.declared.gate.NoTurn.TheVariants.{Busy, Spent}
-use Rattle.qd_gate.specs.Passes.{Answers, FoundBusy, FoundSpent}
+use Rattle.qd_gate.specs.declared.machine.Entry.{Entry}
+use Rattle.qd_gate.specs.declared.machine.Terms.{Terms}
+use Rattle.qd_gate.specs.Passes.{Pass, Answers, FoundBusy, FoundSpent}
 use Rattle.qd_scheme.specs.declared.key.Record.{Record}
 use Rattle.qd_sub.specs.declared.op.Op.{Op}
 use Rattle.qd_sub.specs.declared.op.Reply.{Reply}
@@ -12,6 +14,10 @@ use Rattle.qd_hist_rules.specs.Legal as history
 use Rattle.qd_hist_rules.specs.declared.reply.HistoryReply.{HistoryReply}
 use Rattle.qd_path.specs.Lists.{Lists, GrewBy}
 use Rattle.qd_path.specs.Made.{Made}
+
+-- a stripe answers the op so: some list of it does
+abbrev pub IsAnswer : {O R : Type 0} → (Terms → List (Entry O R) → Type 0) → O → R → Type 0
+IsAnswer {O} {R} legal op reply = (p : Pass O R) × (q : Pass O R) × Answers legal p op reply q
 
 -- the call was answered, and is the one call by which the lists grew; or no call was made, and the words found say why
 abbrev pub TickerTurn : ℕ → ℕ → Op Record Record → Result (Reply Record) (NoTurn (Op Record Record)) → Lists → Lists → Type 0

@@ -1,6 +1,6 @@
 //! The buffers in which stripes give.
 
-ghost use Rattle.std.specs.Prelude.{◌≡◌, Some, None, true};
+ghost use Rattle.std.specs.Prelude.{◌≡◌, Some, None};
 ghost use Rattle.qd_path.specs.declared.side.Side.{Side};
 ghost use Rattle.qd_replies.specs.Asked.{empty, out_op, lent_given, lent_wants};
 
@@ -28,17 +28,6 @@ pub fn keep<T: Copy>(slot: &mut Option<Buffer<T>>, mut buffer: Buffer<T>)
 {
     buffer.clear();
     *slot = Some(buffer);
-}
-
-/// Whether the buffer is there.
-pub fn is_there<T: Copy>(slot: &Option<Buffer<T>>) -> bool
-    ensures there { result ≡ true → slot.now ≡ Some empty }
-    ensures found { slot.now ≡ Some empty → result ≡ true }
-{
-    match slot {
-        Some(buffer) => buffer.room() == MOST && buffer.as_slice().is_empty(),
-        None => false,
-    }
 }
 
 /// The call that asks for what is due to the other end of a link.

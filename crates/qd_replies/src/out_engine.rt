@@ -1,27 +1,25 @@
 //! Replies to bytes: an engine that asks the stripes, one after the other.
 
-ghost use Rattle.std.specs.Prelude.{◌≡◌, ◌≤◌, ◌<◌, [], length, map};
-ghost use Rattle.qd_path.specs.Texts.{reply_items};
-ghost use Rattle.std.specs.Prelude.{ℕ, ◌*◌, List, Option, Some, None};
+ghost use Rattle.std.specs.Prelude.{◌≡◌, ◌<◌, ◌*◌, ℕ, List, Option, Some, None, [], IfOk, length, map};
 ghost use Rattle.qd_grammar.specs.declared.item.Collector.TheVariants.{Ticker, Stream, History};
 ghost use Rattle.qd_path.specs.Lists.{Lists, AreOf};
 ghost use Rattle.qd_path.specs.Made.{Made};
-ghost use Rattle.std.specs.Prelude.{◌+◌, IfOk, true};
+ghost use Rattle.qd_path.specs.Texts.{reply_items};
 ghost use Rattle.qd_scheme.specs.Stripes.{IsStripeCount};
 ghost use Rattle.qd_replies.specs.declared.ends.OutFault.{OutFault};
 ghost use Rattle.qd_replies.specs.declared.ends.OutTurn.TheVariants as turns;
-ghost use Rattle.qd_replies.specs.Tools.{AllOutcome, tools_ready, turn_by, place_by, quiet_by, fault_in};
-ghost use Rattle.qd_replies.specs.Asked.{Tells, Writes, plain_of, empty};
-ghost use Rattle.qd_replies.specs.Outs.{Holds, Backs, Outcome, OutKept, IsInRound, OutStands, OutSteps, StandsForNothing, IsAnswered, IsFree, out_beginning};
+ghost use Rattle.qd_replies.specs.Asked.{IsInLent, Writes, plain_of, empty};
+ghost use Rattle.qd_replies.specs.Outs.{IsWhole, Outcome, OutKept, IsInRound, OutStands, OutSteps, StandsForNothing, IsAnswered, IsFree, out_beginning, collector_at, stripe_at};
+ghost use Rattle.qd_replies.specs.Tools.{tools_ready, turn_by, place_by, quiet_by, fault_in};
 
 use crate::asking::{ask_history, ask_stream, ask_ticker};
-use crate::buffers::{MOST, is_there, keep, op_of, take_back};
+use crate::buffers::{MOST, keep, op_of, take_back};
 use crate::ends::{OutFault, OutTurn};
 use crate::output::Output;
 use crate::printers::{Events, HistoryWants, Items, Printer, Records, StreamWants, TickerWants};
 use qd_buffer::Buffer;
-use qd_history::{HistItem, HistoryReply};
 use qd_gate::NoTurn;
+use qd_history::{HistItem, HistoryReply};
 use qd_hub::Hub;
 use qd_outside::Sink;
 use qd_path::Side;
@@ -40,8 +38,6 @@ pub enum Answer {
     Unwritten,
     Busy { first: u64, then: u64 },
     Spent,
-    /// What no lawful stripe answers.
-    Unlawful,
 }
 
 /// Writes the text of what a stripe gave, and flushes it.
@@ -53,7 +49,7 @@ fn write_given<P: Printer, K: Sink>(
 ) -> Answer
     requires held { output.old ≡ [] }
     requires few { length given.now < 65536 }
-    ensures held { Holds result output.new }
+    ensures held { IsWhole result → output.new ≡ [] }
     ensures written { Writes scheme.now (map P.shown given.now) result (K.flushed sink.new) (K.written sink.old) (K.written sink.new) (K.faults sink.old) (K.faults sink.new) }
 {
     if given.is_empty() {
@@ -77,10 +73,12 @@ fn write_reply<P: Printer, W: Printer<Given = Want>, K: Sink>(
     scheme: &Scheme,
     sink: &mut K,
 ) -> Answer
+    requires lent { IsInLent reply given.old wants.old }
     requires held { output.old ≡ [] }
-    ensures back { Backs reply given.old given.new wants.old wants.new }
-    ensures held { Holds result output.new }
-    ensures written { Tells scheme.now reply (reply_items P.shown W.shown reply) result (K.flushed sink.new) (K.written sink.old) (K.written sink.new) (K.faults sink.old) (K.faults sink.new) }
+    ensures given { given.new ≡ Some empty }
+    ensures wants { wants.new ≡ Some empty }
+    ensures held { IsWhole result → output.new ≡ [] }
+    ensures written { Writes scheme.now (reply_items P.shown W.shown reply) result (K.flushed sink.new) (K.written sink.old) (K.written sink.new) (K.faults sink.old) (K.faults sink.new) }
 {
     match reply {
         Reply::Items(items) => {
@@ -93,7 +91,7 @@ fn write_reply<P: Printer, W: Printer<Given = Want>, K: Sink>(
             keep(wants, items);
             answer
         }
-        _ => Answer::Unlawful,
+        _ => unreachable!(),
     }
 }
 
@@ -125,19 +123,26 @@ fn give_ticker<H: Hub, K: Sink>(
     requires held { output.old ≡ [] }
     ensures same { (H.home hub.new ≡ H.home hub.old) × (H.stripes hub.new ≡ H.stripes hub.old) }
     ensures alone { H.is_alone hub.old → H.is_alone hub.new × IsAnswered result }
-    ensures held { Holds result output.new }
+    ensures given { given.new ≡ Some empty }
+    ensures wants { wants.new ≡ Some empty }
+    ensures held { IsWhole result → output.new ≡ [] }
     ensures outcome { (l : Lists) → AreOf (H.stripes hub.old) (H.ticker hub.old) (H.stream hub.old) (H.history hub.old) l
         → (m : Lists) × AreOf (H.stripes hub.old) (H.ticker hub.new) (H.stream hub.new) (H.history hub.new) m
-        × Outcome scheme.now (H.stripes hub.old) side Ticker stripe result l m (K.flushed sink.new) (record { written = K.written sink.old; faults = K.faults sink.old }) (record { written = K.written sink.new; faults = K.faults sink.new }) given.new wants.new output.new }
+        × Outcome scheme.now (H.stripes hub.old) side Ticker stripe result l m (K.flushed sink.new) (record { written = K.written sink.old; faults = K.faults sink.old }) (record { written = K.written sink.new; faults = K.faults sink.new }) }
 {
     let op = op_of::<Record, Record>(side, given, wants);
     match ask_ticker(hub, stripe, op) {
-        Ok(reply) => write_reply::<Records, TickerWants, K>(reply, given, wants, output, scheme, sink),
+        Ok(reply) => write_reply::<Records, TickerWants, K>(
+            reply, given, wants, output, scheme, sink,
+        ),
         Err(NoTurn::Busy { first, then, op }) => {
             take_back(op, given, wants);
             Answer::Busy { first, then }
         }
-        Err(NoTurn::Spent { word: _, op: _ }) => Answer::Spent,
+        Err(NoTurn::Spent { word: _, op }) => {
+            take_back(op, given, wants);
+            Answer::Spent
+        }
     }
 }
 
@@ -158,19 +163,26 @@ fn give_stream<H: Hub, K: Sink>(
     requires held { output.old ≡ [] }
     ensures same { (H.home hub.new ≡ H.home hub.old) × (H.stripes hub.new ≡ H.stripes hub.old) }
     ensures alone { H.is_alone hub.old → H.is_alone hub.new × IsAnswered result }
-    ensures held { Holds result output.new }
+    ensures given { given.new ≡ Some empty }
+    ensures wants { wants.new ≡ Some empty }
+    ensures held { IsWhole result → output.new ≡ [] }
     ensures outcome { (l : Lists) → AreOf (H.stripes hub.old) (H.ticker hub.old) (H.stream hub.old) (H.history hub.old) l
         → (m : Lists) × AreOf (H.stripes hub.old) (H.ticker hub.new) (H.stream hub.new) (H.history hub.new) m
-        × Outcome scheme.now (H.stripes hub.old) side Stream stripe result l m (K.flushed sink.new) (record { written = K.written sink.old; faults = K.faults sink.old }) (record { written = K.written sink.new; faults = K.faults sink.new }) given.new wants.new output.new }
+        × Outcome scheme.now (H.stripes hub.old) side Stream stripe result l m (K.flushed sink.new) (record { written = K.written sink.old; faults = K.faults sink.old }) (record { written = K.written sink.new; faults = K.faults sink.new }) }
 {
     let op = op_of::<StreamItem, StreamItem>(side, given, wants);
     match ask_stream(hub, stripe, op) {
-        Ok(reply) => write_reply::<Items, StreamWants, K>(reply, given, wants, output, scheme, sink),
+        Ok(reply) => write_reply::<Items, StreamWants, K>(
+            reply, given, wants, output, scheme, sink,
+        ),
         Err(NoTurn::Busy { first, then, op }) => {
             take_back(op, given, wants);
             Answer::Busy { first, then }
         }
-        Err(NoTurn::Spent { word: _, op: _ }) => Answer::Spent,
+        Err(NoTurn::Spent { word: _, op }) => {
+            take_back(op, given, wants);
+            Answer::Spent
+        }
     }
 }
 
@@ -191,19 +203,31 @@ fn give_history<H: Hub, K: Sink>(
     requires held { output.old ≡ [] }
     ensures same { (H.home hub.new ≡ H.home hub.old) × (H.stripes hub.new ≡ H.stripes hub.old) }
     ensures alone { H.is_alone hub.old → H.is_alone hub.new × IsAnswered result }
-    ensures held { Holds result output.new }
+    ensures given { given.new ≡ Some empty }
+    ensures wants { wants.new ≡ Some empty }
+    ensures held { IsWhole result → output.new ≡ [] }
     ensures outcome { (l : Lists) → AreOf (H.stripes hub.old) (H.ticker hub.old) (H.stream hub.old) (H.history hub.old) l
         → (m : Lists) × AreOf (H.stripes hub.old) (H.ticker hub.new) (H.stream hub.new) (H.history hub.new) m
-        × Outcome scheme.now (H.stripes hub.old) side History stripe result l m (K.flushed sink.new) (record { written = K.written sink.old; faults = K.faults sink.old }) (record { written = K.written sink.new; faults = K.faults sink.new }) given.new wants.new output.new }
+        × Outcome scheme.now (H.stripes hub.old) side History stripe result l m (K.flushed sink.new) (record { written = K.written sink.old; faults = K.faults sink.old }) (record { written = K.written sink.new; faults = K.faults sink.new }) }
 {
     let op = op_of::<Event, HistItem>(side, given, wants);
     match ask_history(hub, stripe, op) {
-        Ok(reply) => write_reply::<Events, HistoryWants, K>(plain(reply), given, wants, output, scheme, sink),
+        Ok(reply) => write_reply::<Events, HistoryWants, K>(
+            plain(reply),
+            given,
+            wants,
+            output,
+            scheme,
+            sink,
+        ),
         Err(NoTurn::Busy { first, then, op }) => {
             take_back(op, given, wants);
             Answer::Busy { first, then }
         }
-        Err(NoTurn::Spent { word: _, op: _ }) => Answer::Spent,
+        Err(NoTurn::Spent { word: _, op }) => {
+            take_back(op, given, wants);
+            Answer::Spent
+        }
     }
 }
 
@@ -217,26 +241,16 @@ struct Tools {
     output: Output,
 }
 
-/// Whether all buffers are there and nothing is held back.
-fn are_ready(tools: &Tools) -> bool
-    ensures ready { result ≡ true → tools.now.output ≡ [] → tools.now ≡ tools_ready }
-    ensures found { tools.now ≡ tools_ready → result ≡ true }
-{
-    is_there(&tools.records)
-        && is_there(&tools.items)
-        && is_there(&tools.events)
-        && is_there(&tools.wants)
-}
-
 /// What is answered.
-fn turn_by(n: u8, answer: Answer, ready: bool, quiet: u8) -> OutTurn
+fn turn_by(n: u8, answer: Answer, quiet: u8) -> OutTurn
     requires count { IsStripeCount n }
     requires quiet { quiet < 3 * n }
-    ensures turn { result ≡ turn_by n answer ready quiet }
+    ensures turn { result ≡ turn_by n answer quiet }
     ensures free { IsAnswered answer → IsFree result }
+    ensures whole { fault_in result ≡ None → IsWhole answer }
 {
     match answer {
-        Answer::Gave(count) if ready => {
+        Answer::Gave(count) => {
             if count > 0 {
                 OutTurn::Went(count)
             } else if quiet + 1 == 3 * n {
@@ -245,9 +259,9 @@ fn turn_by(n: u8, answer: Answer, ready: bool, quiet: u8) -> OutTurn
                 OutTurn::Went(0)
             }
         }
-        Answer::Busy { first, then } if ready => OutTurn::Busy { first, then },
         Answer::Unwritten => OutTurn::Ended(OutFault::WriteFault),
-        _ => OutTurn::Ended(OutFault::Spent),
+        Answer::Busy { first, then } => OutTurn::Busy { first, then },
+        Answer::Spent => OutTurn::Ended(OutFault::Spent),
     }
 }
 
@@ -259,13 +273,8 @@ fn place_by(n: u8, answer: Answer, at: u8) -> u8
     ensures within { result < 3 * n }
 {
     match answer {
-        Answer::Gave(_) => {
-            if at + 1 == 3 * n {
-                0
-            } else {
-                at + 1
-            }
-        }
+        Answer::Gave(_) if at + 1 == 3 * n => 0,
+        Answer::Gave(_) => at + 1,
         _ => at,
     }
 }
@@ -278,13 +287,8 @@ fn quiet_by(n: u8, answer: Answer, quiet: u8) -> u8
     ensures within { result < 3 * n }
 {
     match answer {
-        Answer::Gave(count) => {
-            if count > 0 || quiet + 1 == 3 * n {
-                0
-            } else {
-                quiet + 1
-            }
-        }
+        Answer::Gave(count) if count > 0 || quiet + 1 == 3 * n => 0,
+        Answer::Gave(_) => quiet + 1,
         _ => quiet,
     }
 }
@@ -305,10 +309,10 @@ fn give<H: Hub, K: Sink>(
     requires tools { tools.old ≡ tools_ready }
     ensures same { (H.home hub.new ≡ H.home hub.old) × (H.stripes hub.new ≡ H.stripes hub.old) }
     ensures alone { H.is_alone hub.old → H.is_alone hub.new × IsAnswered result }
-    ensures held { Holds result tools.new.output }
+    ensures tools { IsWhole result → tools.new ≡ tools_ready }
     ensures outcome { (l : Lists) → AreOf (H.stripes hub.old) (H.ticker hub.old) (H.stream hub.old) (H.history hub.old) l
         → (m : Lists) × AreOf (H.stripes hub.old) (H.ticker hub.new) (H.stream hub.new) (H.history hub.new) m
-        × AllOutcome scheme.now n side at result l m (K.flushed sink.new) (record { written = K.written sink.old; faults = K.faults sink.old }) (record { written = K.written sink.new; faults = K.faults sink.new }) tools.new }
+        × Outcome scheme.now n side (collector_at n at) (stripe_at n at) result l m (K.flushed sink.new) (record { written = K.written sink.old; faults = K.faults sink.old }) (record { written = K.written sink.new; faults = K.faults sink.new }) }
 {
     if at < n {
         return give_ticker(
@@ -401,18 +405,14 @@ impl OutEngine {
 
     /// Asks one stripe for at most 256 items, and writes the text of what it gives. After Ended the same fault is answered
     /// again, and nothing is called or written.
-    pub fn step<H: Hub, K: Sink>(
-        &mut self,
-        scheme: &Scheme,
-        hub: &mut H,
-        sink: &mut K,
-    ) -> OutTurn
+    pub fn step<H: Hub, K: Sink>(&mut self, scheme: &Scheme, hub: &mut H, sink: &mut K) -> OutTurn
         requires round { IsInRound (H.stripes hub.old) self.old }
         ensures round { IsInRound (H.stripes hub.new) self.new }
         ensures same { (H.home hub.new ≡ H.home hub.old) × (H.stripes hub.new ≡ H.stripes hub.old) × (self.new.side ≡ self.old.side) }
         // After a fault nothing happens any more.
         ensures again { (fault : OutFault) → self.old.ended ≡ Some fault → (result ≡ turns.Ended fault) × (self.new ≡ self.old) × (hub.new ≡ hub.old) × (sink.new ≡ sink.old) }
-        ensures alone { H.is_alone hub.old → H.is_alone hub.new × IsFree result }
+        // Over a hub that is alone each stripe answers.
+        ensures alone { H.is_alone hub.old → H.is_alone hub.new × (self.old.ended ≡ None → IsFree result) }
         // For whatever calls the engine stands, and for whatever lists the hub.
         ensures step { (from : Option (List ℕ)) (past : List Made) (l : Lists) → self.old.ended ≡ None
             → OutStands scheme.now (H.stripes hub.old) from self.old past (K.written sink.old)
@@ -425,8 +425,7 @@ impl OutEngine {
         }
         let n = hub.stripes();
         let answer = give(self.side, hub, n, self.at, &mut self.tools, scheme, sink);
-        let ready = are_ready(&self.tools);
-        let turn = turn_by(n, answer, ready, self.quiet);
+        let turn = turn_by(n, answer, self.quiet);
         self.at = place_by(n, answer, self.at);
         self.quiet = quiet_by(n, answer, self.quiet);
         self.ended = fault_in(turn);

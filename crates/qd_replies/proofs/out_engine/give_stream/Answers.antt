@@ -1,16 +1,18 @@
 use Rattle.std.proofs.Common.{ap}
-use Rattle.qd_path.specs.declared.call.Call.TheVariants as calls
 use Rattle.qd_grammar.specs.declared.item.Collector.TheVariants as collectors
+use Rattle.qd_path.specs.declared.call.Call.TheVariants as calls
 use Rattle.qd_path.specs.Made.{Made}
-use Rattle.qd_replies.proofs.Giving.{stream_lawful, gave}
+use Rattle.qd_replies.proofs.Giving.{stream_lawful, in_lent, gave}
 use Rattle.qd_replies.proofs.out_engine.give_stream.Goals as goal
+
+pub write_reply-requires-clause-lent : goal.write_reply-requires-clause-lent
+write_reply-requires-clause-lent g c = let a = rw c.op_of-op.ensures.op at c.in-Ok.ensures.lawful in in_lent c.args.side c.in-Ok.reply _ _ (stream_lawful c.args.side a.0 _ a.1 a.2) c.op_of-op.ensures.given c.op_of-op.ensures.wants
 
 pub returns-in-Ok-clause-outcome : goal.returns-in-Ok-clause-outcome
 returns-in-Ok-clause-outcome g c = λ l are.
     let t = c.in-Ok.ensures.turn l are in
-    let answers = rw c.op_of-op.ensures.op at t.2.1 in (
+    let asked = ap (λ o. record { stripe = c.args.stripe; call = calls.Stream o }) c.op_of-op.ensures.op in (
       t.0,
       t.1,
-      gave _ _ c.args.side collectors.Stream c.args.stripe c.write_reply.result (Made.Stream c.args.stripe c.op_of-op.result c.in-Ok.reply) c.in-Ok.reply l t.0 _ _ _ c.op_of-op.new.given _ c.op_of-op.new.wants _ _
-      (ap (λ o. record { stripe = c.args.stripe; call = calls.Stream o }) c.op_of-op.ensures.op) t.2.0 (stream_lawful c.args.side _ _ _ answers) c.write_reply.ensures.written c.write_reply.ensures.back c.op_of-op.ensures.given c.op_of-op.ensures.wants c.write_reply.ensures.held,
+      gave _ _ c.args.side collectors.Stream c.args.stripe c.write_reply.result (Made.Stream c.args.stripe c.op_of-op.result c.in-Ok.reply) l t.0 _ _ _ asked t.2.0 c.write_reply.ensures.written,
     )

@@ -14,8 +14,8 @@ returns-clause-step g c = λ from past l none stands are.
       t.0,
       t.1,
       subst (λ (k : OutKept). OutSteps c.args.scheme.now (g.H.Hub.stripes c.args.hub.now) from k c.turn_by-turn.result
-      (record { side = c.self.inside.side; at = c.place_by-self-inside.result; quiet = c.quiet_by-self-inside.result; ended = c.fault_in-self-inside.result }) past l t.0 (g.K.Sink.flushed c.give-answer.new.sink)
-      (record { written = g.K.Sink.written c.args.sink.now; faults = g.K.Sink.faults c.args.sink.now }) (record { written = g.K.Sink.written c.give-answer.new.sink; faults = g.K.Sink.faults c.give-answer.new.sink })) v
-      (rw (c.fault_in-self-inside.ensures, c.turn_by-turn.ensures.turn, c.place_by-self-inside.ensures.place, c.quiet_by-self-inside.ensures.quiet, count)
-      (out_step _ _ from view c.give-answer.result c.are_ready-ready.result _ past l t.0 _ _ _ (ap (λ (k : OutKept). k.ended) v ∙ none) within (subst (λ (k : OutKept). OutStands c.args.scheme.now (g.H.Hub.stripes c.args.hub.now) from k past (g.K.Sink.written c.args.sink.now)) (sym v) stands) all c.are_ready-ready.ensures.found)),
+          (record { side = c.self.inside.side; at = c.place_by-self-inside.result; quiet = c.quiet_by-self-inside.result; ended = c.fault_in-self-inside.result }) past l t.0 (g.K.Sink.flushed c.give-answer.new.sink)
+          (record { written = g.K.Sink.written c.args.sink.now; faults = g.K.Sink.faults c.args.sink.now }) (record { written = g.K.Sink.written c.give-answer.new.sink; faults = g.K.Sink.faults c.give-answer.new.sink })) v
+          (rw (c.fault_in-self-inside.ensures, c.turn_by-turn.ensures.turn, c.place_by-self-inside.ensures.place, c.quiet_by-self-inside.ensures.quiet, count)
+          (out_step _ _ from view c.give-answer.result past l t.0 _ _ _ (ap (λ (k : OutKept). k.ended) v ∙ none) within (subst (λ (k : OutKept). OutStands c.args.scheme.now (g.H.Hub.stripes c.args.hub.now) from k past (g.K.Sink.written c.args.sink.now)) (sym v) stands) all)),
     )
