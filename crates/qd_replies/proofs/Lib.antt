@@ -1,7 +1,9 @@
 mod Beginnings
+mod Fitting
 mod Giving
 mod Growing
 mod Prints
+mod Quiets
 mod Rounds
 mod Soundness
 mod Turning

@@ -1,4 +1,5 @@
 pub mod Asked
+pub mod Laws
 pub mod Outs
 pub mod Tools
 pub mod Turns

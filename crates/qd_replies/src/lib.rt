@@ -4,7 +4,8 @@
 //! The items that a stripe gives are written with their heads, and a heartbeat behind them, and flushed; of a reply without items
 //! nothing is written. After [`OutTurn::Busy`] the same stripe comes next.
 //!
-//! Which bytes are written of replies is defined in `qd_path`; what an engine keeps and what a step of it does stands in `specs/Outs`.
+//! Which bytes are written of replies is defined in `qd_path`; what an engine keeps and what a step of it does stands in `specs/Outs`,
+//! and what holds of the calls of every engine in `specs/Laws`.
 #![tactic(auto)]
 
 mod asking;
@@ -12,9 +13,11 @@ mod buffers;
 mod ends;
 mod fits;
 mod held;
+mod laws;
 mod out_engine;
 mod output;
 mod printers;
 
 pub use ends::{OutFault, OutTurn};
+pub use laws::{exactly_idle, fitting_items, round_places};
 pub use out_engine::OutEngine;
