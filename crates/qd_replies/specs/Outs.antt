@@ -90,7 +90,7 @@ IsAnswered (Busy first found) = ⊥
 IsAnswered Spent = ⊥
 IsAnswered _ = Unit {0}
 
--- the stripe was asked
+-- the stripe answered: no other caller had a turn, and no word stood at its end
 abbrev pub IsFree : OutTurn → Type 0
 IsFree (turns.Busy first found) = ⊥
 IsFree (turns.Ended faults.Spent) = ⊥

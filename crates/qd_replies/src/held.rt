@@ -17,11 +17,13 @@ pub struct Held {
 }
 
 impl Model for Held {
-    ghost use Rattle.std.specs.Prelude.{ℕ, List};
+    ghost use Rattle.std.specs.Prelude.{ℕ, List, ◌≤◌, vec_len, vec_capacity};
 
     ghost Value = { List ℕ };
 
     ghost view = { λ h. h.bytes.items };
+
+    ghost invariant = { λ h. (vec_len h.bytes ≤ 131072) × (131072 ≤ vec_capacity h.bytes) };
 }
 
 impl Held {
@@ -34,16 +36,12 @@ impl Held {
         })
     }
 
-    /// Whether there is room for a text.
-    fn has_room(&self, text: &[u8]) -> bool {
-        self.bytes.len() < ROOM && text.len() < ROOM - self.bytes.len()
-    }
-
-    /// Prints a text. Where there is no room for it, all that was printed is written.
+    /// Prints a text. Where there is no room for it, what is held back is written, and it too.
     pub fn print<K: Sink>(&mut self, sink: &mut K, text: &[u8]) -> bool
         ensures { Prints result text.now self.old self.new (K.written sink.old) (K.written sink.new) (K.faults sink.old) (K.faults sink.new) }
     {
-        if self.has_room(text) && self.bytes.extend_from_slice(text).is_ok() {
+        if text.len() <= ROOM - self.bytes.len() {
+            let _ = self.bytes.extend_from_slice(text);
             return true;
         }
         self.print_through(sink, text)
