@@ -56,13 +56,17 @@ def stopped(process, seconds):
     return End(f'no answer in {seconds:.0f} s', b'', b'')
 
 
-def end_with_parent():
+def in_child():
+    """A run ends with its parent, and signals mean to it what they mean in the foreground: whoever starts the checks behind nohup
+    or with & has SIGINT ignored, and what is ignored stays so in all that is started."""
     LIBC.prctl(PR_SET_PDEATHSIG, signal.SIGKILL)
+    for ignored in (signal.SIGINT, signal.SIGQUIT, signal.SIGHUP):
+        signal.signal(ignored, signal.SIG_DFL)
 
 
 def start(words, program=None, **how):
     """Starts the program, or another one, in a group of its own; it ends with the process that started it at the latest."""
-    return subprocess.Popen([str(program or settings['program']), *words], start_new_session=True, preexec_fn=end_with_parent, **how)
+    return subprocess.Popen([str(program or settings['program']), *words], start_new_session=True, preexec_fn=in_child, **how)
 
 
 def run(words, given=b'', program=None, stdin=subprocess.PIPE, stderr=subprocess.PIPE, **how):
