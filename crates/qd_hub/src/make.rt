@@ -14,12 +14,16 @@ use qd_stream::StreamStripe;
 use qd_ticker::TickerStripe;
 use std::alloc::Global;
 
-pub(crate) fn ticker_states(alloc: Global, stripes: u8) -> Result<Vec<TickerStripe>, NoMemory>
+pub(crate) fn ticker_states(
+    alloc: Global,
+    stripes: u8,
+    seed: u64,
+) -> Result<Vec<TickerStripe>, NoMemory>
     ensures { IfOk result (λ v. AllNew ⟦<TickerStripe as Machine>⟧.stands ⟦<TickerStripe as Machine>⟧.terms stripes no_terms v.items) }
 {
     let mut states = Vec::with_capacity(alloc, stripes as usize)?;
     for _stripe in 0..stripes {
-        states.push(TickerStripe::new(alloc)?)?;
+        states.push(TickerStripe::with_seed(alloc, seed)?)?;
     }
     Ok(states)
 }
@@ -28,12 +32,13 @@ pub(crate) fn stream_states(
     alloc: Global,
     stripes: u8,
     cap: u16,
+    seed: u64,
 ) -> Result<Vec<StreamStripe>, NoMemory>
     ensures { IfOk result (λ v. AllNew ⟦<StreamStripe as Machine>⟧.stands ⟦<StreamStripe as Machine>⟧.terms stripes (stream.terms_of cap) v.items) }
 {
     let mut states = Vec::with_capacity(alloc, stripes as usize)?;
     for _stripe in 0..stripes {
-        states.push(StreamStripe::new(alloc, cap)?)?;
+        states.push(StreamStripe::with_seed(alloc, cap, seed)?)?;
     }
     Ok(states)
 }
@@ -42,13 +47,14 @@ pub(crate) fn history_states(
     alloc: Global,
     stripes: u8,
     hcap: u16,
+    seed: u64,
 ) -> Result<Vec<HistoryStripe>, NoMemory>
     requires { (1 ≤ hcap) × (hcap ≤ 4096) }
     ensures { IfOk result (λ v. AllNew ⟦<HistoryStripe as Machine>⟧.stands ⟦<HistoryStripe as Machine>⟧.terms stripes (history.terms_of hcap 0) v.items) }
 {
     let mut states = Vec::with_capacity(alloc, stripes as usize)?;
     for _stripe in 0..stripes {
-        states.push(HistoryStripe::new(alloc, hcap)?)?;
+        states.push(HistoryStripe::with_seed(alloc, hcap, seed)?)?;
     }
     Ok(states)
 }

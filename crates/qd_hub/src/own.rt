@@ -46,17 +46,27 @@ impl Model for OwnHub {
 }
 
 impl OwnHub {
-    /// It stands for the empty lists.
+    /// It stands for the empty lists. Keys are hashed with the seed 0.
     pub fn new(alloc: Global, config: Config) -> Result<OwnHub, NoMemory>
         ensures sizes { IfOk result (λ h. h.sizes ≡ config) }
         ensures ticker { IfOk result (λ h. (i : ℕ) (p : Pass _ _) → i < config.stripes → IsFirst no_terms p → ⟦<OwnHub as Hub>⟧.ticker h i p) }
         ensures stream { IfOk result (λ h. (i : ℕ) (p : Pass _ _) → i < config.stripes → IsFirst (stream_terms config) p → ⟦<OwnHub as Hub>⟧.stream h i p) }
         ensures history { IfOk result (λ h. (i : ℕ) (p : Pass _ _) → i < config.stripes → IsFirst (history_terms config) p → ⟦<OwnHub as Hub>⟧.history h i p) }
     {
+        OwnHub::with_seed(alloc, config, 0)
+    }
+
+    /// The same, with keys hashed with a seed, on which no answer depends.
+    pub fn with_seed(alloc: Global, config: Config, seed: u64) -> Result<OwnHub, NoMemory>
+        ensures sizes { IfOk result (λ h. h.sizes ≡ config) }
+        ensures ticker { IfOk result (λ h. (i : ℕ) (p : Pass _ _) → i < config.stripes → IsFirst no_terms p → ⟦<OwnHub as Hub>⟧.ticker h i p) }
+        ensures stream { IfOk result (λ h. (i : ℕ) (p : Pass _ _) → i < config.stripes → IsFirst (stream_terms config) p → ⟦<OwnHub as Hub>⟧.stream h i p) }
+        ensures history { IfOk result (λ h. (i : ℕ) (p : Pass _ _) → i < config.stripes → IsFirst (history_terms config) p → ⟦<OwnHub as Hub>⟧.history h i p) }
+    {
         let stripes = config.stripes();
-        let ticker = OwnRow::new(ticker_states(alloc, stripes)?);
-        let stream = OwnRow::new(stream_states(alloc, stripes, config.cap())?);
-        let history = OwnRow::new(history_states(alloc, stripes, config.hcap())?);
+        let ticker = OwnRow::new(ticker_states(alloc, stripes, seed)?);
+        let stream = OwnRow::new(stream_states(alloc, stripes, config.cap(), seed)?);
+        let history = OwnRow::new(history_states(alloc, stripes, config.hcap(), seed)?);
         Ok(OwnHub {
             config,
             ticker,

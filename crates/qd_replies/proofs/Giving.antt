@@ -33,7 +33,7 @@ last_follows : {O R : Type 0} (follows : List (Entry O R) → Entry O R → Type
 last_follows follows before [] e h = (before, h.0)
 last_follows follows before (x ∷ xs) e h = last_follows follows (before ++ x ∷ []) xs e h.1
 
-last_of : {O R : Type 0} (follows : Terms → List (Entry O R) → Entry O R → Type 0) (p : Pass O R) (op : O) (reply : R) (q : Pass O R)
+pub last_of : {O R : Type 0} (follows : Terms → List (Entry O R) → Entry O R → Type 0) (p : Pass O R) (op : O) (reply : R) (q : Pass O R)
     → Answers (λ terms log. EachFollows (follows terms) [] log) p op reply q → (seen : List (Entry O R)) × follows q.terms seen (entry p.number op reply)
 last_of follows p op reply q a =
     last_follows (follows q.terms) [] (p.seen ++ a.between) (entry p.number op reply) (subst (λ log. EachFollows (follows q.terms) [] log) a.seen a.is_legal)

@@ -1,9 +1,6 @@
 mod Beginnings
 mod Fitting
-mod Giving
-mod Growing
-mod Prints
+pub mod Giving
+pub mod Prints
 mod Quiets
 mod Rounds
-mod Soundness
-mod Turning

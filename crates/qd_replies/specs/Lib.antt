@@ -2,4 +2,3 @@ pub mod Asked
 pub mod Laws
 pub mod Outs
 pub mod Tools
-pub mod Turns

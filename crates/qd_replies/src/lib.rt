@@ -8,16 +8,19 @@
 //! and what holds of the calls of every engine in `specs/Laws`.
 #![tactic(auto)]
 
-mod asking;
 mod buffers;
 mod ends;
-mod fits;
 mod held;
 mod laws;
 mod out_engine;
 mod output;
 mod printers;
+mod spelling;
 
 pub use ends::{OutFault, OutTurn};
+pub use held::Held;
 pub use laws::{exactly_idle, fitting_items, round_places};
 pub use out_engine::OutEngine;
+pub use output::Output;
+pub use printers::{Events, HistoryWants, Items, Printer, Records, StreamWants, TickerWants};
+pub use spelling::fits;

@@ -12,12 +12,12 @@ ghost use Rattle.qd_replies.specs.Asked.{IsInLent, Writes, plain_of, empty};
 ghost use Rattle.qd_replies.specs.Outs.{IsWhole, Outcome, OutKept, IsInRound, OutStands, OutSteps, StandsForNothing, IsAnswered, IsFree, out_beginning, collector_at, stripe_at};
 ghost use Rattle.qd_replies.specs.Tools.{tools_ready, turn_by, place_by, quiet_by, fault_in};
 
-use crate::asking::{ask_history, ask_stream, ask_ticker};
 use crate::buffers::{MOST, keep, op_of, take_back};
 use crate::ends::{OutFault, OutTurn};
 use crate::output::Output;
 use crate::printers::{Events, HistoryWants, Items, Printer, Records, StreamWants, TickerWants};
 use qd_buffer::Buffer;
+use qd_calls::{ask_history, ask_stream, ask_ticker};
 use qd_gate::NoTurn;
 use qd_history::{HistItem, HistoryReply};
 use qd_hub::Hub;

@@ -6,7 +6,7 @@ use Rattle.qd_items.proofs.StepLaws.{opening_read}
 use Rattle.qd_path.specs.declared.call.Asked.{Asked}
 use Rattle.qd_path.specs.declared.side.Side.{Side}
 use Rattle.qd_path.specs.Calls.{Place, beginning, mode_of}
-use Rattle.qd_session.specs.Dues.{IsDue}
+use Rattle.qd_calls.specs.Dues.{IsDue}
 use Rattle.qd_session.specs.Ins.{StandsForNothing, in_beginning}
 
 pub stands_new : (side : Side) → StandsForNothing (in_beginning side (opening (mode_of side)) beginning)

@@ -4,9 +4,6 @@ use Rattle.std.proofs.lemmas.List.{append-nil}
 use Rattle.qd_items.specs.Standing.{Kept, Past, IsTaken}
 use Rattle.qd_outside.specs.Reading.{Took}
 use Rattle.qd_scheme.specs.declared.defs.RecordDef.{RecordDef}
-use Rattle.qd_ticker.specs.Legal as ticker
-use Rattle.qd_stream.specs.Legal as stream
-use Rattle.qd_hist_rules.specs.Legal as history
 use Rattle.qd_path.specs.declared.call.Asked.{Asked}
 use Rattle.qd_path.specs.declared.side.Side.{Side}
 use Rattle.qd_path.specs.Lists.{Lists, AreSound, GrewBy}
@@ -16,7 +13,8 @@ use Rattle.qd_session.specs.declared.ends.InEnd.TheVariants as ends
 use Rattle.qd_session.specs.declared.ends.InTurn.{InTurn}
 use Rattle.qd_session.specs.declared.ends.InTurn.TheVariants as turns
 use Rattle.qd_session.specs.Ins.{InKept, InStands, HasRead, Sourced, ReadsOn, InSteps, InEnded, InCause, MakesNext, MadeNext, end_in}
-use Rattle.qd_session.proofs.Growing.{gains_none}
+use Rattle.qd_calls.proofs.Adding.{grew_none}
+use Rattle.qd_calls.proofs.Growing.{map_more, done_more}
 
 -- an engine with the end that it came to, and with these calls due
 abbrev pub with_end : Option InEnd → InKept → InKept
@@ -24,13 +22,6 @@ with_end end k = record { side = k.side; items = k.items; place = k.place; due =
 
 abbrev pub going : List Asked → Option InEnd → InKept → InKept
 going due end k = record { side = k.side; items = k.items; place = k.place; due = due; closing = k.closing; ended = end }
-
-grew_none : (n : ℕ) (l : Lists) → AreSound n l → GrewBy n [] l l
-grew_none n l sound = record {
-  on_ticker = λ i h. gains_none ticker.IsLegal (l.ticker i) (sound.on_ticker i h);
-  on_stream = λ i h. gains_none stream.IsLegal (l.stream i) (sound.on_stream i h);
-  on_history = λ i h. gains_none history.IsLegal (l.history i) (sound.on_history i h);
-}
 
 open_again : (defs : List RecordDef) (n : ℕ) (from : Option (List ℕ)) (k : InKept) (p : Past) (made : List Made) (left : Option (List ℕ)) → InStands defs n from k p made left → InStands defs n from (with_end None k) p (made ++ []) left
 open_again defs n from k p made left s = record {
@@ -67,14 +58,6 @@ read_steps defs n from k k' (turns.Ended end) p made l s t sound done r = record
   cause = r.cause l;
   ended = refl;
 }
-
-map_more : (made : List Made) (x : Made) (due : List Asked) → map asked_in made ++ asked_in x ∷ due ≡ map asked_in (made ++ x ∷ []) ++ due
-map_more [] x due = refl
-map_more (y ∷ made) x due = ap (λ (l : List Asked). asked_in y ∷ l) (map_more made x due)
-
-done_more : (made : List Made) (x : Made) → AreDone made → IsDone x → AreDone (made ++ x ∷ [])
-done_more [] x d h = (h, tt)
-done_more (y ∷ made) x d h = (d.0, done_more made x d.1 h)
 
 -- the bytes taken, whether or not END was judged
 bytes_of : (closing : Bool) (defs : List RecordDef) (side : Side) (from : Option (List ℕ)) (k : Kept) (p : Past) (left : Option (List ℕ)) → HasRead closing defs side from k p left

@@ -1,6 +1,5 @@
 -- What an engine that reads keeps, for which past it stands, and what a step of it does.
-use Rattle.std.specs.Prelude.{ℕ, ◌≡◌, ◌<◌, ◌≤◌, ◌+◌, ◌⊎◌, Bool, true, false, Option, Some, None, Result, Ok, Err, List, [], ◌∷◌, ◌++◌, length, map, All}
-use Rattle.qd_grammar.specs.declared.item.Item.{Item}
+use Rattle.std.specs.Prelude.{ℕ, ◌≡◌, ◌<◌, ◌≤◌, ◌+◌, ◌⊎◌, Bool, true, false, Option, Some, None, List, [], ◌∷◌, ◌++◌, length, map, All}
 use Rattle.qd_items.specs.declared.ends.TextEnd.{TextEnd}
 use Rattle.qd_items.specs.declared.ends.TextEnd.TheVariants as texts
 use Rattle.qd_items.specs.Ends.{Cause}
@@ -13,15 +12,15 @@ use Rattle.qd_outside.specs.Reading.{Took, IsSpent}
 use Rattle.qd_scheme.specs.declared.defs.RecordDef.{RecordDef}
 use Rattle.qd_path.specs.declared.call.Asked.{Asked}
 use Rattle.qd_path.specs.declared.side.Side.{Side}
-use Rattle.qd_path.specs.Calls.{Place, mode_of, place_of, calls, calls_of, calls_with, after}
-use Rattle.qd_path.specs.Groups.{size, no_group}
+use Rattle.qd_path.specs.Calls.{Place, mode_of, place_of, calls}
+use Rattle.qd_path.specs.Groups.{size}
 use Rattle.qd_path.specs.Lists.{Lists, GrewBy, IsBusyAt, IsSpentAt}
 use Rattle.qd_path.specs.Made.{Made, asked_in, AreDone, IsDone}
 use Rattle.qd_session.specs.declared.ends.InEnd.{InEnd}
 use Rattle.qd_session.specs.declared.ends.InEnd.TheVariants as ends
 use Rattle.qd_session.specs.declared.ends.InTurn.{InTurn}
 use Rattle.qd_session.specs.declared.ends.InTurn.TheVariants as turns
-use Rattle.qd_session.specs.Dues.{IsDue, TellsLimit, TellsSpent, collector_of}
+use Rattle.qd_calls.specs.Dues.{IsDue, TellsLimit, TellsSpent, collector_of}
 
 -- what an engine keeps: its side; what it reads; where the text stands; the calls that are due; whether END was judged while
 -- calls are due; the end that it came to
@@ -44,6 +43,14 @@ IsHungry k = (k.ended ≡ None) × (k.due ≡ []) × (k.closing ≡ false) × Wi
 abbrev pub TellsHungry : Bool → InKept → Type 0
 TellsHungry true k = IsHungry k
 TellsHungry false k = IsHungry k → ⊥
+
+-- the next step makes a call: the engine has not ended, and a call is due
+abbrev pub IsCalling : InKept → Type 0
+IsCalling k = (k.ended ≡ None) × (k.due ≡ [] → ⊥)
+
+abbrev pub TellsCalling : Bool → InKept → Type 0
+TellsCalling true k = IsCalling k
+TellsCalling false k = IsCalling k → ⊥
 
 -- the calls that are due are those of a hub of so many stripes
 pub record IsCutFor (n : ℕ) (k : InKept) : Type 0 where
@@ -157,16 +164,6 @@ in_end texts.NoMemory = ends.NoMemory
 abbrev pub end_in : InTurn → Option InEnd
 end_in (turns.Ended end) = Some end
 end_in _ = None
-
--- an item was heard: the calls of the group that it ends are due; without memory they are not
-abbrev pub Hears : ℕ → ℕ → Item → Bool → Place → List Asked → Place → List Asked → Type 0
-Hears n agent item true p due q due' = (q ≡ after item p) × (due' ≡ due ++ calls_with n agent item p)
-Hears n agent item false p due q due' = Unit {0}
-
--- the open group was closed: its calls are due
-abbrev pub Closes : {E : Type 0} → ℕ → ℕ → Result (Unit {0}) E → Place → List Asked → Place → List Asked → Type 0
-Closes n agent (Ok u) p due q due' = (q ≡ record { message = p.message; group = no_group }) × (due' ≡ due ++ calls_of n agent p.message p.group)
-Closes n agent (Err e) p due q due' = Unit {0}
 
 -- the engine goes on
 abbrev pub IsOpenTurn : InTurn → Type 0

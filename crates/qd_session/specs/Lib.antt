@@ -1,5 +1,1 @@
-pub mod Cutting
-pub mod Dues
 pub mod Ins
-pub mod Joining
-pub mod Turns

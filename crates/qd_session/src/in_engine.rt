@@ -1,154 +1,28 @@
 //! Bytes to calls: an engine that makes the calls that its bytes ask for, one a step.
 
 ghost use Rattle.std.specs.Prelude.{◌≡◌, ◌<◌, ◌≤◌, ℕ, List, Option, Some, None, [], All, IfOk, true, false};
-ghost use Rattle.qd_grammar.specs.declared.item.Item.{Item};
 ghost use Rattle.qd_items.specs.Standing.{Past, opening};
 ghost use Rattle.qd_items.specs.Steps.{WillRead};
 ghost use Rattle.qd_scheme.specs.Stripes.{IsStripeCount};
-ghost use Rattle.qd_path.specs.Calls.{Place, beginning, mode_of, agent_of};
-ghost use Rattle.qd_path.specs.Groups.{size};
+ghost use Rattle.qd_path.specs.Calls.{beginning, mode_of, agent_of};
 ghost use Rattle.qd_path.specs.Lists.{Lists, AreOf};
 ghost use Rattle.qd_path.specs.Made.{Made};
 ghost use Rattle.qd_items.specs.declared.ends.TextEnd.TheVariants as texts;
 ghost use Rattle.qd_session.specs.declared.ends.InEnd.{InEnd};
 ghost use Rattle.qd_session.specs.declared.ends.InTurn.TheVariants as turns;
-ghost use Rattle.qd_session.specs.Dues.{IsDue};
-ghost use Rattle.qd_session.specs.Ins.{in_beginning, in_end, end_in, TellsHungry, IsCutFor, InStands, InSteps, Hears, Closes, IsHungry, IsOpenTurn, IsOfRead, IsFree, StandsForNothing, MakesNext, ReadsOn, with_due};
-ghost use Rattle.std.specs.Prelude.{is_ok};
-ghost use Rattle.qd_path.specs.declared.kind.Kind.TheVariants as kinds;
-ghost use Rattle.qd_path.specs.Groups.{kind_of};
+ghost use Rattle.qd_calls.specs.Dues.{IsDue};
+ghost use Rattle.qd_session.specs.Ins.{in_beginning, in_end, end_in, TellsHungry, TellsCalling, IsCutFor, InStands, InSteps, IsHungry, IsOpenTurn, IsOfRead, IsFree, StandsForNothing, MakesNext, ReadsOn, with_due};
 
-use crate::cutting::cut_group;
-use crate::due::{Reaction, make};
 use crate::ends::{InEnd, InTurn};
-use crate::group::{Joined, OpenGroup};
-use crate::kind::kind_of;
-use qd_grammar::{Item, Message, Mode};
+use qd_calls::{Reaction, Reading, make};
+use qd_grammar::{Item, Mode};
 use qd_hub::Hub;
 use qd_items::{Items, TextEnd, Turn};
 use qd_outside::Source;
-use qd_path::{Asked, Kind, Side};
+use qd_path::{Asked, Side};
 use qd_scheme::{AgentNo, NoMemory, Scheme};
-use std::alloc::{AllocError, Global};
+use std::alloc::Global;
 use std::marker::Model;
-
-/// Where the text stands: the current message, and the open group.
-#[derive(Drop)]
-pub struct Reading {
-    message: Option<Message>,
-    group: OpenGroup,
-}
-
-impl Model for Reading {
-    ghost use Rattle.qd_path.specs.Calls.{Place};
-
-    ghost Value = { Place };
-
-    ghost view = { λ r. record { message = r.message; group = r.group } };
-}
-
-impl Reading {
-    fn new(alloc: Global) -> Reading
-        ensures { result ≡ beginning }
-    {
-        Reading {
-            message: None,
-            group: OpenGroup::new(alloc),
-        }
-    }
-
-    /// Makes the calls of the open group due, and opens another one.
-    fn close(
-        &mut self,
-        alloc: Global,
-        n: u8,
-        agent: AgentNo,
-        due: &mut Vec<Asked>,
-    ) -> Result<(), AllocError>
-        requires count { IsStripeCount n }
-        requires few { size self.old.group ≤ 4096 }
-        requires due { All (IsDue n) due.old.items }
-        ensures closed { Closes n agent result self.old due.old.items self.new due.new.items }
-        ensures due { All (IsDue n) due.new.items }
-    {
-        cut_group(alloc, n, self.message, agent, &self.group, due)?;
-        self.group.clear();
-        Ok(())
-    }
-
-    /// A body line joins the group, which ends once it is full.
-    fn body(
-        &mut self,
-        alloc: Global,
-        n: u8,
-        agent: AgentNo,
-        item: &Item,
-        due: &mut Vec<Asked>,
-    ) -> Result<(), AllocError>
-        requires body { kind_of item.now ≡ kinds.Body }
-        requires count { IsStripeCount n }
-        requires few { size self.old.group < 4096 }
-        requires due { All (IsDue n) due.old.items }
-        ensures hears { Hears n agent item.now (is_ok result) self.old due.old.items self.new due.new.items }
-        ensures due { All (IsDue n) due.new.items }
-    {
-        match self.group.join(self.message, item) {
-            Joined::Foreign => Ok(()),
-            Joined::NoMemory => Err(AllocError),
-            Joined::Joined => {
-                if !self.group.is_full() {
-                    return Ok(());
-                }
-                self.close(alloc, n, agent, due)
-            }
-        }
-    }
-
-    /// A line that ends a group.
-    fn control(
-        &mut self,
-        alloc: Global,
-        n: u8,
-        agent: AgentNo,
-        item: &Item,
-        due: &mut Vec<Asked>,
-    ) -> Result<(), AllocError>
-        requires control { kind_of item.now ≡ kinds.Control }
-        requires count { IsStripeCount n }
-        requires few { size self.old.group < 4096 }
-        requires due { All (IsDue n) due.old.items }
-        ensures hears { Hears n agent item.now (is_ok result) self.old due.old.items self.new due.new.items }
-        ensures due { All (IsDue n) due.new.items }
-    {
-        self.close(alloc, n, agent, due)?;
-        if let Item::Head(message) = item {
-            self.message = Some(*message);
-        }
-        Ok(())
-    }
-
-    /// Takes an item in: the calls of the group that it ends are then due.
-    pub fn hear(
-        &mut self,
-        alloc: Global,
-        n: u8,
-        agent: AgentNo,
-        item: &Item,
-        due: &mut Vec<Asked>,
-    ) -> Result<(), AllocError>
-        requires count { IsStripeCount n }
-        requires few { size self.old.group < 4096 }
-        requires due { All (IsDue n) due.old.items }
-        ensures hears { Hears n agent item.now (is_ok result) self.old due.old.items self.new due.new.items }
-        ensures due { All (IsDue n) due.new.items }
-    {
-        match kind_of(item) {
-            Kind::Body => self.body(alloc, n, agent, item, due),
-            Kind::Description => Ok(()),
-            Kind::Control => self.control(alloc, n, agent, item, due),
-        }
-    }
-}
 
 /// The mode in which the text of a link is read.
 fn mode_of(side: Side) -> Mode
@@ -293,6 +167,13 @@ impl InEngine {
             return false;
         }
         self.items.is_hungry()
+    }
+
+    /// Whether the next step makes a call.
+    pub fn is_calling(&self) -> bool
+        ensures tells { TellsCalling result self.now }
+    {
+        self.ended.is_none() && !self.due.is_empty()
     }
 
     /// Judges the next line, or reads once; no call is due.

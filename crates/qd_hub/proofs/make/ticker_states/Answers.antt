@@ -8,7 +8,7 @@ pub loop-stripe-init : goal.loop-stripe-init
 loop-stripe-init c = none_new Stands (λ (s : Shown). no_terms) no_terms c.in_ok-states.states.items c.in_ok-states.ensures.items
 
 pub loop-stripe-preserved : goal.loop-stripe-preserved
-loop-stripe-preserved c = one_more_new Stands (λ (s : Shown). no_terms) c.loop-stripe._stripe no_terms c.loop-stripe.states.items c.push.new.self.items c.in_ok-new.field-0 c.loop-stripe.invariant c.in_ok-new.ensures refl c.in_ok-push.ensures.items
+loop-stripe-preserved c = one_more_new Stands (λ (s : Shown). no_terms) c.loop-stripe._stripe no_terms c.loop-stripe.states.items c.push.new.self.items c.in_ok-with_seed.field-0 c.loop-stripe.invariant c.in_ok-with_seed.ensures refl c.in_ok-push.ensures.items
 
 pub returns : goal.returns
 returns c = as_many_new Stands (λ (s : Shown). no_terms) c.loop-stripe._stripe c.args.stripes no_terms c.loop-stripe.states.items c.loop-stripe.invariant (let a = c.loop-stripe-test.false in let b = c.loop-stripe.auto._stripe-end in omega arith)

@@ -1,6 +1,6 @@
 use Rattle.std.proofs.Common.{ℕ, ◌≡◌, sym, ◌∙◌, subst}
 use Rattle.qd_session.specs.Ins.{InKept, InStands, InSteps, end_in}
-use Rattle.qd_session.proofs.Soundness.{sound_lists}
+use Rattle.qd_calls.proofs.Soundness.{sound_lists}
 use Rattle.qd_session.proofs.Stepping.{read_steps, call_steps, with_end, going}
 use Rattle.qd_session.proofs.in_engine.InEngine.step.Goals as goal
 
