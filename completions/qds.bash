@@ -3,9 +3,11 @@ _qds() {
     local word=${COMP_WORDS[COMP_CWORD]} before=${COMP_WORDS[COMP_CWORD - 1]} command=${COMP_WORDS[1]} at=0 options='--scheme'
     COMPREPLY=()
     if [ "$COMP_CWORD" -eq 1 ]; then
-        COMPREPLY=($(compgen -W 'check fmt replay' -- "$word"))
+        COMPREPLY=($(compgen -W 'check fmt replay gen' -- "$word"))
         return
     fi
+    # gen takes two numbers.
+    [ "$command" = gen ] && return
     # bash cuts --scheme=FILE at its =, so the value comes as a word of its own.
     if [ "$word" = '=' ]; then
         word=''
@@ -15,13 +17,14 @@ _qds() {
     case $before in
     --scheme) compopt -o filenames 2>/dev/null; COMPREPLY=($(compgen -f -- "$word")); return ;;
     --cap | --hcap) COMPREPLY=($(compgen -W '1 100 1024 4096' -- "$word")); return ;;
+    --stripes) COMPREPLY=($(compgen -W '1 2 4 8 16' -- "$word")); return ;;
     esac
     while [ "$((at += 1))" -lt "$COMP_CWORD" ]; do
         if [ "${COMP_WORDS[at]}" = '--' ]; then
             options=''
         fi
     done
-    [ "$command" = replay ] && options=${options:+$options --cap --hcap}
+    [ "$command" = replay ] && options=${options:+$options --cap --hcap --stripes}
     if [ -n "$options" ] && [ "${word#-}" != "$word" ]; then
         COMPREPLY=($(compgen -W "$options --" -- "$word"))
         return

@@ -1,195 +1,55 @@
--- How a step ends a run, and how it goes on.
-use Rattle.std.proofs.Common.{ℕ, ◌≡◌, ◌==◌, inl, inr, true, false, Option, Some, None, Result, Ok, Err, List, [], ◌∷◌, ◌++◌, refl, sym, ◌∙◌, ap, append_assoc, length, subst}
+-- How a step goes on, and how it ends a run.
+use Rattle.std.proofs.Common.{ℕ, ◌≡◌, ◌<◌, ◌⊎◌, inl, inr, true, false, Option, Some, None, List, [], ◌∷◌, ◌++◌, map, refl, sym, ◌∙◌, ap, append_assoc, arith}
+use Rattle.std.specs.Prelude.{◌≤◌, nat_lt}
+use Rattle.std.proofs.lemmas.Bool.Decides.{nat_tests}
 use Rattle.std.proofs.lemmas.List.{append-nil}
-use Rattle.qd_buffer.specs.Filled.{Filled}
-use Rattle.qd_gate.specs.Logs.{entry}
+use Rattle.qd_grammar.specs.declared.item.Item.{Item}
+use Rattle.qd_grammar.specs.declared.item.Item.TheVariants as items
+use Rattle.qd_items.specs.declared.ends.RunEnd.{RunEnd}
+use Rattle.qd_items.specs.declared.ends.RunEnd.TheVariants.{Done, BadStep, WriteFault}
 use Rattle.qd_outside.specs.Buffering.{Prints}
 use Rattle.qd_outside.specs.Writing.{IsCutShort}
 use Rattle.qd_outside.proofs.Streams.{Gained-more}
 use Rattle.qd_scheme.specs.declared.defs.RecordDef.{RecordDef}
-use Rattle.qd_scheme.specs.declared.key.Key.{Key}
-use Rattle.qd_scheme.specs.declared.key.Record.{Record}
-use Rattle.qd_sub.specs.declared.sub.Sub.{Sub}
-use Rattle.qd_sub.specs.declared.op.Op.{Op}
-use Rattle.qd_sub.specs.declared.op.Reply.{Reply}
-use Rattle.qd_ticker.specs.Legal as ticker
-use Rattle.qd_ticker.specs.Stripes as ticker_stripes
-use Rattle.qd_stream.specs.Legal as stream
-use Rattle.qd_stream.specs.Stripes as stream_stripes
-use Rattle.qd_hist_rules.specs.declared.reply.HistoryReply.{HistoryReply}
-use Rattle.qd_hist_rules.specs.Legal as history
-use Rattle.qd_hist_stand.specs.Stripes as history_stripes
-use Rattle.qd_gate.specs.declared.machine.Terms.{Terms}
-use Rattle.qd_grammar.specs.declared.item.Collector.{Collector}
-use Rattle.qd_grammar.specs.declared.item.Collector.TheVariants as collectors
-use Rattle.qd_grammar.specs.declared.item.Item.{Item}
-use Rattle.qd_grammar.specs.declared.item.Item.TheVariants as items
-use Rattle.qd_grammar.specs.declared.item.Message.{Message}
-use Rattle.qd_items.specs.declared.ends.RunEnd.{RunEnd}
-use Rattle.qd_items.specs.declared.ends.RunEnd.TheVariants.{Done, Refused, WriteFault, Spent, NoMemory}
-use Rattle.qd_replay.specs.declared.stripes.Stripes.{Stripes}
-use Rattle.qd_replay.specs.declared.stripes.Refusal.{Refusal}
-use Rattle.qd_replay.specs.declared.stripes.Refusal.TheVariants as refusals
-use Rattle.qd_replay.specs.declared.kind.Kind.TheVariants.{Body, Description, Control}
-use Rattle.qd_replay.specs.Calls.{Call, Answer, Act, full_of, asks, adds, removes}
-use Rattle.qd_replay.specs.Calls.Call.{Ticker, Stream, History}
-use Rattle.qd_replay.specs.Calls.Act.{Ask, Say}
-use Rattle.qd_replay.specs.Replies.{line_of}
-use Rattle.qd_replay.specs.Running.{Has, IsGranted, IsRefusal, IsTurnedDown, logged, text_of}
-use Rattle.qd_replay.specs.Scripts.{Script, Group, no_group, group_with, kind_of, is_full, is_bad, calls_of, after, acts_with, own_acts, led_by, goes_on}
-use Rattle.qd_replay.specs.Settings.{Caps, Setting}
-use Rattle.qd_replay.specs.Steps.{Grants, GrantsEvent, Makes, Sunk, IsShown, IsAt, IsHalted, Stops, Kept, with_group, without_group, ended_by, Turns, Gives, Halts, Hears, ActsItself, is_write_fault}
+use Rattle.qd_calls.proofs.Adding.{grew_more, grew_none, grown_sound}
+use Rattle.qd_path.specs.declared.call.Asked.{Asked}
+use Rattle.qd_path.specs.Calls.{calls_with}
+use Rattle.qd_path.specs.declared.kind.Kind.TheVariants.{Body}
+use Rattle.qd_path.specs.Groups.{size, kind_of}
+use Rattle.qd_path.specs.Lists.{Lists, GrewBy, AreSound}
+use Rattle.qd_path.specs.Made.{Made, asked_in, AreDone}
+use Rattle.qd_path.specs.Texts.{line_of}
+use Rattle.qd_replay.specs.declared.due.Refusal.{Refusal}
+use Rattle.qd_replay.specs.declared.due.Refusal.TheVariants as refusals
+use Rattle.qd_replay.specs.Running.{Did, Ran}
+use Rattle.qd_replay.specs.Scripts.{Script, Act, after, acts_with, own_acts, is_bad, link_after}
+use Rattle.qd_replay.specs.Scripts.Act.{Ask, Say}
+use Rattle.qd_replay.specs.Settings.{Setting}
+use Rattle.qd_replay.specs.Steps.{MadeSome, WhyRefused, CallsHalt, Calls, Sunk, IsShown, Stops, Kept, WentOn, Halts, Hears, ActsItself, is_write_fault, ended_by, ToldBy}
 
--- the ticker took a step, and nothing else changed
-pub ticker_turns : (op : Op Record Record) (reply : Reply Record) (s t : Stripes)
-    → ((log : List ticker.TickerEntry) (who : ℕ) → ticker_stripes.Stands s.ticker log → ticker.IsLegal ticker.no_terms log
-    → ticker_stripes.Stands t.ticker (log ++ entry who op reply ∷ []) × ticker.IsLegal ticker.no_terms (log ++ entry who op reply ∷ []))
-    → t.stream ≡ s.stream → t.history ≡ s.history → Turns (Ticker op) reply s t
-ticker_turns op reply s t turn same other = λ caps logs stand legal.
-    let next = turn logs.ticker 0 stand.ticker legal.ticker in (
-      record { ticker = next.0; stream = rw same stand.stream; history = rw other stand.history; bounds = rw (same, other) stand.bounds; base = rw other stand.base },
-      record { ticker = next.1; stream = legal.stream; history = legal.history },
-    )
+-- acts were done, and then more
+pub ran_more : (n : ℕ) (defs : List RecordDef) (acts more : List Act) (made calls : List Made) (out text : List ℕ)
+    → Ran n defs acts made out → Ran n defs more calls text → Ran n defs (acts ++ more) (made ++ calls) (out ++ text)
+ran_more n defs [] more made calls out text (e, f) r = rw (e, f) r
+ran_more n defs (a ∷ acts) more made calls out text (first, others, t, rest, e, f, did, ran) r = (
+  first,
+  others ++ calls,
+  t,
+  rest ++ text,
+  ap (λ (l : List Made). l ++ calls) e ∙ append_assoc first others calls,
+  ap (λ (l : List ℕ). l ++ text) f ∙ append_assoc t rest text,
+  did,
+  ran_more n defs acts more others calls rest text ran r,
+)
 
--- the stream took a step, and nothing else changed
-pub stream_turns : (op : stream.StreamOp) (reply : stream.StreamReply) (s t : Stripes)
-    → ((log : List stream.StreamEntry) (who : ℕ) → stream_stripes.Stands s.stream log → stream.IsLegal (stream.terms_of s.stream.boxes.cap) log
-    → stream_stripes.Stands t.stream (log ++ entry who op reply ∷ []) × stream.IsLegal (stream.terms_of s.stream.boxes.cap) (log ++ entry who op reply ∷ []))
-    → t.stream.boxes.cap ≡ s.stream.boxes.cap → t.ticker ≡ s.ticker → t.history ≡ s.history → Turns (Stream op) reply s t
-stream_turns op reply s t turn same first other = λ caps logs stand legal.
-    let cap : s.stream.boxes.cap ≡ caps.cap = ap (λ (c : Caps). c.cap) stand.bounds in
-    let next = turn logs.stream 0 stand.stream (rw cap legal.stream) in (
-      record { ticker = rw first stand.ticker; stream = next.0; history = rw other stand.history; bounds = rw (same, other) stand.bounds; base = rw other stand.base },
-      record { ticker = legal.ticker; stream = rw cap at next.1; history = legal.history },
-    )
+-- one act was done
+pub ran_one : (n : ℕ) (defs : List RecordDef) (a : Act) (made : List Made) (out : List ℕ) → Did n defs a made out → Ran n defs (a ∷ []) made out
+ran_one n defs a made out did = (made, [], out, [], sym (append-nil made), sym (append-nil out), did, (refl, refl))
 
--- the history took a step, and nothing else changed
-pub history_turns : (op : history.HistoryOp) (reply : HistoryReply) (s t : Stripes)
-    → ((log : List history.HistoryEntry) (who : ℕ) → history_stripes.Stands s.history log → history.IsLegal (history_stripes.terms_in s.history) log
-    → history_stripes.Stands t.history (log ++ entry who op reply ∷ []) × history.IsLegal (history_stripes.terms_in s.history) (log ++ entry who op reply ∷ []))
-    → history_stripes.terms_in t.history ≡ history_stripes.terms_in s.history → t.ticker ≡ s.ticker → t.stream ≡ s.stream → Turns (History op) reply s t
-history_turns op reply s t turn same first second = λ caps logs stand legal.
-    let hcap : s.history.hcap ≡ caps.hcap = ap (λ (c : Caps). c.hcap) stand.bounds in
-    let still : t.history.hcap ≡ s.history.hcap = ap (λ (x : Terms). x.hcap) same in
-    let base : t.history.base ≡ s.history.base = ap (λ (x : Terms). x.base) same in
-    let next = turn logs.history 0 stand.history (rw (hcap, stand.base) legal.history) in (
-      record { ticker = rw first stand.ticker; stream = rw second stand.stream; history = next.0; bounds = rw (second, still) stand.bounds; base = base ∙ stand.base },
-      record { ticker = legal.ticker; stream = legal.stream; history = rw (hcap, stand.base) at next.1 },
-    )
-
--- a call that was granted, of which nothing is printed
-granted_has : (call : Call) (reply : Answer call) (s t : Stripes) (set : Setting) (done : List Act) (out : List ℕ)
-    → Turns call reply s t → IsGranted call reply → text_of set.defs call reply ≡ [] → Has set done s out → Has set (Ask call ∷ done) t out
-granted_has call reply s t set done out turn g none h =
-    let next = turn set.caps h.logs h.stand h.legal in
-    record {
-      logs = logged h.logs call reply;
-      ran = (h.logs, reply, out, refl, rw none (sym (append-nil out)), g, h.ran);
-      stand = next.0;
-      legal = next.1;
-    }
-
--- a call that was refused
-refused_has : (call : Call) (reply : Answer call) (refusal : Refusal) (s t : Stripes) (set : Setting) (done : List Act) (out : List ℕ)
-    → Turns call reply s t → IsRefusal refusal call reply → Has set done s out → IsTurnedDown refusal (Ask call ∷ []) set done out
-refused_has call reply refusal s t set done out turn r h =
-    record { call = call; one = refl; logs = h.logs; ran = h.ran; legal = h.legal; refused = (reply, r, (turn set.caps h.logs h.stand h.legal).1) }
-
--- a call is asked for where there are items for it
-pub asked : {X : Type 0} (call : Filled X → Call) (xs : List X) → (length xs == 0) ≡ false → (one : Call) × (asks call xs ≡ Ask one ∷ [])
-asked call [] h = absurd (cc)
-asked call (x ∷ xs) h = (call (full_of (x ∷ xs)), refl)
-
-pub add_asked : (collector : Collector) (agent : ℕ) (subs : List Sub) → (length subs == 0) ≡ false → (one : Call) × (adds collector agent subs ≡ Ask one ∷ [])
-add_asked collectors.Ticker agent subs h = asked (λ items. Ticker (Op.Add agent items)) subs h
-add_asked collectors.Stream agent subs h = asked (λ items. Stream (Op.Add agent items)) subs h
-add_asked collectors.History agent subs h = asked (λ items. History (Op.Add agent items)) subs h
-
-pub remove_asked : (collector : Collector) (agent : ℕ) (keys : List Key) → (length keys == 0) ≡ false → (one : Call) × (removes collector agent keys ≡ Ask one ∷ [])
-remove_asked collectors.Ticker agent keys h = asked (λ items. Ticker (Op.Remove agent items)) keys h
-remove_asked collectors.Stream agent keys h = asked (λ items. Stream (Op.Remove agent items)) keys h
-remove_asked collectors.History agent keys h = asked (λ items. History (Op.Remove agent items)) keys h
-
--- a call of the ticker, granted or refused
-pub ticker_asked : (op : Op Record Record) (reply : Reply Record) (result : Result (Unit {0}) Refusal) (s t : Stripes)
-    → Turns (Ticker op) reply s t → Grants reply result → Makes (Ask (Ticker op) ∷ []) result s t
-ticker_asked op reply (Ok u) s t turn g = λ set done out h. granted_has (Ticker op) reply s t set done out turn (rw g tt) (rw g refl) h
-ticker_asked op reply (Err refusals.Spent) s t turn g = absurd g
-ticker_asked op reply (Err (refusals.TooMany limit)) s t turn g = λ set done out h. refused_has (Ticker op) reply (refusals.TooMany limit) s t set done out turn g h
-ticker_asked op reply (Err refusals.NoMemory) s t turn g = (Ticker op, refl)
-
--- a call of the stream, granted or refused
-pub stream_asked : (op : stream.StreamOp) (reply : stream.StreamReply) (result : Result (Unit {0}) Refusal) (s t : Stripes)
-    → Turns (Stream op) reply s t → Grants reply result → Makes (Ask (Stream op) ∷ []) result s t
-stream_asked op reply (Ok u) s t turn g = λ set done out h. granted_has (Stream op) reply s t set done out turn (rw g tt) (rw g refl) h
-stream_asked op reply (Err refusals.Spent) s t turn g = absurd g
-stream_asked op reply (Err (refusals.TooMany limit)) s t turn g = λ set done out h. refused_has (Stream op) reply (refusals.TooMany limit) s t set done out turn g h
-stream_asked op reply (Err refusals.NoMemory) s t turn g = (Stream op, refl)
-
--- a call of the history, granted or refused
-pub history_asked : (op : history.HistoryOp) (reply : HistoryReply) (result : Result (Unit {0}) Refusal) (s t : Stripes)
-    → Turns (History op) reply s t → GrantsEvent reply result → Makes (Ask (History op) ∷ []) result s t
-history_asked op reply (Ok u) s t turn g = λ set done out h. granted_has (History op) reply s t set done out turn (rw g tt) (rw g refl) h
-history_asked op reply (Err (refusals.TooMany limit)) s t turn g = λ set done out h. refused_has (History op) reply (refusals.TooMany limit) s t set done out turn g h
-history_asked op reply (Err refusals.Spent) s t turn g = λ set done out h. refused_has (History op) reply refusals.Spent s t set done out turn g h
-history_asked op reply (Err refusals.NoMemory) s t turn g = (History op, refl)
-
--- none of what an item leads to is done
-pub halted : (end : RunEnd) (message : Option Message) (item : Item) (line : ℕ) (acts : List Act) (o : Sunk) (set : Setting) (done : List Act) (s : Stripes) (held : List ℕ) (w : Sunk)
-    → (at : IsAt o set done s held w) → is_write_fault end ≡ false → Stops end set.caps message item line acts at.has.logs o.faults w.faults → IsHalted end message item line acts o set done held w
-halted end message item line acts o set done s held w at sound cause = record {
-  later = acts;
-  now = [];
-  acts_are = sym (append-nil acts);
-  logs = at.has.logs;
-  out = at.out;
-  ran = at.has.ran;
-  legal = at.has.legal;
-  told = rw sound at.shown;
-  cause = cause;
-}
-
--- memory was wanted for a call
-pub call_wanted : (call : Call) (message : Option Message) (item : Item) (line : ℕ) (o : Sunk) (set : Setting) (done : List Act) (s : Stripes) (held : List ℕ) (w : Sunk)
-    → IsAt o set done s held w → IsHalted NoMemory message item line (Ask call ∷ []) o set done held w
-call_wanted call message item line o set done s held w at = halted NoMemory message item line (Ask call ∷ []) o set done s held w at refl (inr (call, [], refl))
-
--- memory was wanted for a body line
-pub line_wanted : (message : Option Message) (item : Item) (line : ℕ) (acts : List Act) (o : Sunk) (set : Setting) (done : List Act) (s : Stripes) (held : List ℕ) (w : Sunk)
-    → kind_of item ≡ Body → is_bad message item ≡ false → IsAt o set done s held w → IsHalted NoMemory message item line acts o set done held w
-line_wanted message item line acts o set done s held w k b at = halted NoMemory message item line acts o set done s held w at refl (inl (k, b))
-
--- the call of a group is refused
-halted_by : (end : RunEnd) (refusal : Refusal) (message : Option Message) (item : Item) (line : ℕ) (acts calls : List Act) (o : Sunk) (set : Setting) (done : List Act) (s : Stripes) (held : List ℕ) (w : Sunk)
-    → (at : IsAt o set done s held w) → (td : IsTurnedDown refusal calls set done at.out) → is_write_fault end ≡ false
-    → Stops end set.caps message item line acts td.logs o.faults w.faults → IsHalted end message item line acts o set done held w
-halted_by end refusal message item line acts calls o set done s held w at td sound cause = record {
-  later = acts;
-  now = [];
-  acts_are = sym (append-nil acts);
-  logs = td.logs;
-  out = at.out;
-  ran = td.ran;
-  legal = td.legal;
-  told = rw sound at.shown;
-  cause = cause;
-}
-
-pub halted_refused : (refusal : Refusal) (message : Option Message) (item : Item) (line : ℕ) (acts more calls : List Act) (o : Sunk) (set : Setting) (done : List Act) (s t : Stripes) (held : List ℕ) (w : Sunk)
-    → acts ≡ more ++ calls → IsAt o set done s held w → Makes calls (Err refusal) s t → IsHalted (ended_by line refusal) message item line acts o set done held w
-halted_refused (refusals.TooMany limit) message item line acts more calls o set done s t held w e at made =
-    let td = made set done at.out at.has in
-    halted_by (Refused line limit) (refusals.TooMany limit) message item line acts calls o set done s held w at td refl (refl, td.call, more, e ∙ ap (λ (l : List Act). more ++ l) td.one, td.refused)
-halted_refused refusals.Spent message item line acts more calls o set done s t held w e at made =
-    let td = made set done at.out at.has in
-    halted_by Spent refusals.Spent message item line acts calls o set done s held w at td refl (td.call, more, e ∙ ap (λ (l : List Act). more ++ l) td.one, td.refused)
-halted_refused refusals.NoMemory message item line acts more calls o set done s t held w e at made =
-    halted NoMemory message item line acts o set done s held w at refl (inr (made.0, more, e ∙ ap (λ (l : List Act). more ++ l) made.1))
-
--- calls are made, and nothing is printed
-pub called : (calls : List Act) (o : Sunk) (set : Setting) (done : List Act) (s t : Stripes) (held : List ℕ) (w : Sunk)
-    → Makes calls (Ok tt) s t → IsAt o set done s held w → IsAt o set (calls ++ done) t held w
-called calls o set done s t held w made at = record { out = at.out; has = made set done at.out at.has; shown = at.shown }
+-- calls that were granted
+pub ran_calls : (n : ℕ) (defs : List RecordDef) (made : List Made) → AreDone made → Ran n defs (map Ask (map asked_in made)) made []
+ran_calls n defs [] done = (refl, refl)
+ran_calls n defs (x ∷ made) done = (x ∷ [], made, [], [], refl, refl, (x, refl, refl, done.0, refl), ran_calls n defs made done.1)
 
 -- what was shown, with a text behind it
 pub shown_more : (o w v : Sunk) (out held text new : List ℕ) → IsShown o w out held → Prints true text held new w.written v.written w.faults v.faults → IsShown o v (out ++ text) new
@@ -210,168 +70,179 @@ shown_cut o w v out held text s c = record {
   later = rw s.same at c.later;
 }
 
--- a line is printed
-pub said : (item : Item) (o : Sunk) (set : Setting) (done : List Act) (s : Stripes) (held new : List ℕ) (w v : Sunk)
-    → Prints true (line_of set.defs item) held new w.written v.written w.faults v.faults → IsAt o set done s held w → IsAt o set (Say item ∷ done) s new v
-said item o set done s held new w v p at = record {
-  out = at.out ++ line_of set.defs item;
-  has = record { logs = at.has.logs; ran = (at.out, refl, at.has.ran); stand = at.has.stand; legal = at.has.legal };
-  shown = shown_more o w v at.out held (line_of set.defs item) new at.shown p;
+-- an act was done by these calls, and its text printed
+pub acted : (set : Setting) (a : Act) (calls : List Made) (text held new : List ℕ) (l m : Lists) (w v : Sunk)
+    → Did set.stripes set.defs a calls text → GrewBy set.stripes calls l m → Prints true text held new w.written v.written w.faults v.faults → WentOn set (a ∷ []) held l w new m v
+acted set a calls text held new l m w v did grew p = λ o from done at. record {
+  made = at.made ++ calls;
+  out = at.out ++ text;
+  ran = ran_more set.stripes set.defs done (a ∷ []) at.made calls at.out text at.ran (ran_one set.stripes set.defs a calls text did);
+  grew = grew_more set.stripes at.made calls from l m at.grew grew;
+  shown = shown_more o w v at.out held text new at.shown p;
 }
 
--- a line is cut short
-pub said_short : (said : Item) (message : Option Message) (item : Item) (line : ℕ) (o : Sunk) (set : Setting) (done : List Act) (s : Stripes) (held new : List ℕ) (w v : Sunk)
-    → Prints false (line_of set.defs said) held new w.written v.written w.faults v.faults → IsAt o set done s held w → IsHalted WriteFault message item line (Say said ∷ []) o set done new v
-said_short said message item line o set done s held new w v p at =
-    let cut = shown_cut o w v at.out held (line_of set.defs said) at.shown p in
+-- an act was done by these calls, and a write of its text failed
+pub acted_short : (set : Setting) (a : Act) (calls : List Made) (text held new : List ℕ) (l m : Lists) (w v : Sunk) (s : Script) (item : Item) (line : ℕ)
+    → Did set.stripes set.defs a calls text → GrewBy set.stripes calls l m → Prints false text held new w.written v.written w.faults v.faults → Halts set WriteFault s item line (a ∷ []) held l w new m v
+acted_short set a calls text held new l m w v s item line did grew p = λ o from done at.
+    let cut = shown_cut o w v at.out held text at.shown p in
     record {
+      now = a ∷ [];
       later = [];
-      now = Say said ∷ [];
       acts_are = refl;
-      logs = at.has.logs;
-      out = at.out ++ line_of set.defs said;
-      ran = (at.out, refl, at.has.ran);
-      legal = at.has.legal;
+      made = at.made ++ calls;
+      refused = [];
+      out = at.out ++ text;
+      ran = ran_more set.stripes set.defs done (a ∷ []) at.made calls at.out text at.ran (ran_one set.stripes set.defs a calls text did);
+      grew = rw (append-nil (at.made ++ calls)) (grew_more set.stripes at.made calls from l m at.grew grew);
       told = cut;
-      cause = cut.rose;
+      cause = (cut.rose, refl, refl);
     }
 
--- the last line is printed
-pub ended : (message : Option Message) (line : ℕ) (o : Sunk) (set : Setting) (done : List Act) (s : Stripes) (held new : List ℕ) (w v : Sunk)
-    → Prints true (line_of set.defs items.End) held new w.written v.written w.faults v.faults → IsAt o set done s held w → IsHalted Done message items.End line (Say items.End ∷ []) o set done new v
-ended message line o set done s held new w v p at =
-    let next = said items.End o set done s held new w v p at in
-    record {
-      later = [];
-      now = Say items.End ∷ [];
-      acts_are = refl;
-      logs = next.has.logs;
-      out = next.out;
-      ran = next.has.ran;
-      legal = next.has.legal;
-      told = next.shown;
-      cause = (refl, refl);
-    }
+-- no call was made, and nothing printed
+pub nothing_done : (set : Setting) (held : List ℕ) (l : Lists) (w : Sunk) → WentOn set [] held l w held l w
+nothing_done set held l w = λ o from done at. rw (append-nil done) at
 
--- what stands once a call is answered and its text is known
-taken_has : (call : Call) (text : List RecordDef → List ℕ) (set : Setting) (done : List Act) (s t : Stripes) (out : List ℕ)
-    → Gives call (Some text) s t → Has set done s out → Has set (Ask call ∷ done) t (out ++ text set.defs)
-taken_has call text set done s t out g h =
-    let next = g.3 set.caps h.logs h.stand h.legal in
-    record {
-      logs = logged h.logs call g.0;
-      ran = (h.logs, g.0, out, refl, ap (λ (l : List ℕ). out ++ l) (sym (g.2 set.defs)), g.1, h.ran);
-      stand = next.0;
-      legal = next.1;
-    }
-
--- a TAKE is answered, and its reply printed
-pub taken : (call : Call) (text : List RecordDef → List ℕ) (o : Sunk) (set : Setting) (done : List Act) (s t : Stripes) (held new : List ℕ) (w v : Sunk)
-    → Gives call (Some text) s t → Prints true (text set.defs) held new w.written v.written w.faults v.faults
-    → IsAt o set done s held w → IsAt o set (Ask call ∷ done) t new v
-taken call text o set done s t held new w v g p at = record {
-  out = at.out ++ text set.defs;
-  has = taken_has call text set done s t at.out g at.has;
-  shown = shown_more o w v at.out held (text set.defs) new at.shown p;
+-- a run ended before any of the acts was done, by no fault of writing
+pub halted : (set : Setting) (end : RunEnd) (s : Script) (item : Item) (line : ℕ) (acts : List Act) (held : List ℕ) (l : Lists) (w : Sunk)
+    → is_write_fault end ≡ false → ((before after : ℕ) → Stops end s item line acts [] before after) → Halts set end s item line acts held l w held l w
+halted set end s item line acts held l w sound cause = λ o from done at. record {
+  now = [];
+  later = acts;
+  acts_are = refl;
+  made = at.made;
+  refused = [];
+  out = at.out;
+  ran = rw (append-nil done) at.ran;
+  grew = rw (append-nil at.made) at.grew;
+  told = rw sound at.shown;
+  cause = cause o.faults w.faults;
 }
 
--- the reply to a TAKE is cut short
-pub taken_short : (call : Call) (text : List RecordDef → List ℕ) (message : Option Message) (item : Item) (line : ℕ) (o : Sunk) (set : Setting) (done : List Act) (s t : Stripes) (held new : List ℕ) (w v : Sunk)
-    → Gives call (Some text) s t → Prints false (text set.defs) held new w.written v.written w.faults v.faults
-    → IsAt o set done s held w → IsHalted WriteFault message item line (Ask call ∷ []) o set done new v
-taken_short call text message item line o set done s t held new w v g p at =
-    let has = taken_has call text set done s t at.out g at.has in
-    let cut = shown_cut o w v at.out held (text set.defs) at.shown p in
+-- the run went on, and then on again
+pub went_both : (set : Setting) (a b : List Act) (held mid new : List ℕ) (l k m : Lists) (w u v : Sunk) → WentOn set a held l w mid k u → WentOn set b mid k u new m v → WentOn set (a ++ b) held l w new m v
+went_both set a b held mid new l k m w u v first second = λ o from done at. rw (← append_assoc done a b) (second o from (done ++ a) (first o from done at))
+
+-- the run went on, and then it ended
+pub went_halts : (set : Setting) (end : RunEnd) (s : Script) (item : Item) (line : ℕ) (a b : List Act) (held mid new : List ℕ) (l k m : Lists) (w u v : Sunk)
+    → WentOn set a held l w mid k u → Halts set end s item line b mid k u new m v → Halts set end s item line (a ++ b) held l w new m v
+went_halts set end s item line a b held mid new l k m w u v first second = λ o from done at.
+    let h = second o from (done ++ a) (first o from done at) in
     record {
-      later = [];
-      now = Ask call ∷ [];
-      acts_are = refl;
-      logs = has.logs;
-      out = at.out ++ text set.defs;
-      ran = has.ran;
-      legal = has.legal;
-      told = cut;
-      cause = cut.rose;
-    }
-
--- a full group is called at once
-pub body_acts : (item : Item) (s : Script) → kind_of item ≡ Body → is_bad s.message item ≡ false → is_full (group_with s.message item s.group) ≡ true
-    → acts_with item s ≡ calls_of s.message s.link (group_with s.message item s.group)
-body_acts item s k b f = rw (k, b, f) refl
-
--- a description leads nowhere
-pub description_goes : (item : Item) (message : Option Message) → kind_of item ≡ Description → goes_on item message ≡ true
-description_goes (items.Describe n) message k = refl
-description_goes items.Protocol message k = absurd (cc)
-description_goes (items.Head m) message k = absurd (cc)
-description_goes (items.Rec r) message k = absurd (cc)
-description_goes (items.Ev e) message k = absurd (cc)
-description_goes (items.Sub x) message k = absurd (cc)
-description_goes (items.HistSub x) message k = absurd (cc)
-description_goes (items.Lost x n) message k = absurd (cc)
-description_goes items.Heartbeat message k = absurd (cc)
-description_goes items.End message k = absurd (cc)
-description_goes (items.Time n) message k = absurd (cc)
-description_goes (items.Link n) message k = absurd (cc)
-description_goes (items.Take c n) message k = absurd (cc)
-description_goes (items.Node n m) message k = absurd (cc)
-description_goes (items.At n m) message k = absurd (cc)
-description_goes (items.Pump n) message k = absurd (cc)
-description_goes (items.Move n w b) message k = absurd (cc)
-
--- a line that ends a group: the group is called, and the line acts itself
-pub controlled : (item : Item) (line : ℕ) (defs : List RecordDef) (result : Option RunEnd) (e f : Kept) (s t u : Stripes) (w v : Sunk)
-    → kind_of item ≡ Control → Makes (calls_of e.script.message e.script.link e.script.group) (Ok tt) s t
-    → ActsItself item line defs result (without_group e) t w f u v → Hears item line defs result e s w f u v
-controlled item line defs None e f s t u w v k made acts = (
-  acts.0 ∙ after_control item e.script k,
-  acts.1,
-  λ o caps done at.
-      let calls = calls_of e.script.message e.script.link e.script.group in
-      let next = acts.2 o caps (calls ++ done) (called calls o (record { defs = defs; caps = caps }) done s t e.held w made at) in
-      rw (control_acts item e.script k, append_assoc (own_acts e.script.link item) calls done) next,
-)
-  where
-    after_control : (item : Item) (s : Script) → kind_of item ≡ Control → led_by item s.message s.link ≡ after item s
-    after_control item s k = rw k refl
-
-    control_acts : (item : Item) (s : Script) → kind_of item ≡ Control → acts_with item s ≡ own_acts s.link item ++ calls_of s.message s.link s.group
-    control_acts item s k = rw k refl
-controlled item line defs (Some end) e f s t u w v k made acts = λ o caps done at.
-    let calls = calls_of e.script.message e.script.link e.script.group in
-    let own = own_acts e.script.link item in
-    let h = acts o caps (calls ++ done) (called calls o (record { defs = defs; caps = caps }) done s t e.held w made at) in
-    let all : acts_with item e.script ≡ own ++ calls = rw k refl in
-    record {
+      now = a ++ h.now;
       later = h.later;
-      now = h.now ++ calls;
-      acts_are = all ∙ ap (λ (l : List Act). l ++ calls) h.acts_are ∙ append_assoc h.later h.now calls;
-      logs = h.logs;
+      acts_are = ap (λ (x : List Act). a ++ x) h.acts_are ∙ sym (append_assoc a h.now h.later);
+      made = h.made;
+      refused = h.refused;
       out = h.out;
-      ran = rw (append_assoc h.now calls done) h.ran;
-      legal = h.legal;
+      ran = rw (append_assoc done a h.now) at h.ran;
+      grew = h.grew;
       told = h.told;
       cause = h.cause;
     }
 
--- a group that a body line fills is refused
-pub body_refused : (refusal : Refusal) (item : Item) (line : ℕ) (defs : List RecordDef) (e g f : Kept) (s t : Stripes) (w : Sunk)
-    → kind_of item ≡ Body → is_bad e.script.message item ≡ false → g ≡ with_group (group_with e.script.message item e.script.group) e → is_full g.script.group ≡ true
-    → Makes (calls_of g.script.message g.script.link g.script.group) (Err refusal) s t → f.held ≡ g.held
-    → Halts (ended_by line refusal) item line (acts_with item e.script) defs e s w f w
-body_refused refusal item line defs e g f s t w k b eq full made held = λ o caps done at.
-    let m = subst (λ (x : Kept). Makes (calls_of x.script.message x.script.link x.script.group) (Err refusal) s t) eq made in
-    let fills = rw eq at full in
-    rw (held, eq) (halted_refused refusal e.script.message item line (acts_with item e.script) [] (calls_of e.script.message e.script.link (group_with e.script.message item e.script.group)) o (record { defs = defs; caps = caps }) done s t e.held w (body_acts item e.script k b fills) at m)
+-- all calls that were due were made
+pub called : (set : Setting) (due : List Asked) (held : List ℕ) (l m : Lists) (w : Sunk) → MadeSome set.stripes due [] l m → WentOn set (map Ask due) held l w held m w
+called set due held l m w c = λ o from done at. record {
+  made = at.made ++ c.made;
+  out = at.out ++ [];
+  ran = ran_more set.stripes set.defs done (map Ask due) at.made c.made at.out [] at.ran (rw (c.due_is ∙ append-nil (map asked_in c.made)) (ran_calls set.stripes set.defs c.made c.done));
+  grew = grew_more set.stripes at.made c.made from l m at.grew c.grew;
+  shown = rw (append-nil at.out) at.shown;
+}
 
--- the call of a group that a line ends is refused
-pub control_refused : (refusal : Refusal) (item : Item) (line : ℕ) (defs : List RecordDef) (e f : Kept) (s t : Stripes) (w : Sunk)
-    → kind_of item ≡ Control → Makes (calls_of e.script.message e.script.link e.script.group) (Err refusal) s t → f.held ≡ e.held
-    → Halts (ended_by line refusal) item line (acts_with item e.script) defs e s w f w
-control_refused refusal item line defs e f s t w k made held = λ o caps done at.
-    let all : acts_with item e.script ≡ own_acts e.script.link item ++ calls_of e.script.message e.script.link e.script.group = rw k refl in
-    rw held (halted_refused refusal e.script.message item line (acts_with item e.script) (own_acts e.script.link item) (calls_of e.script.message e.script.link e.script.group) o (record { defs = defs; caps = caps }) done s t e.held w all at made)
+map_more : (a b : List Asked) → map Ask (a ++ b) ≡ map Ask a ++ map Ask b
+map_more [] b = refl
+map_more (x ∷ a) b = ap (λ (l : List Act). Ask x ∷ l) (map_more a b)
 
--- a script without an open group
-pub closed_script : (s : Script) → s.group ≡ no_group → s ≡ record { message = s.message; link = s.link; group = no_group }
-closed_script s h = let x : s ≡ record { message = s.message; link = s.link; group = no_group } = ap (λ (g : Group). record { message = s.message; link = s.link; group = g }) h in x
+-- a call was refused
+pub refused : (set : Setting) (refusal : Refusal) (item : Item) (line : ℕ) (s : Script) (held : List ℕ) (l m : Lists) (w : Sunk)
+    → CallsHalt set.stripes refusal item s l m → Halts set (ended_by line refusal) s item line (acts_with set.stripes item s) held l w held m w
+refused set refusal item line s held l m w c = λ o from done at. record {
+  now = map Ask (map asked_in c.made);
+  later = map Ask c.later ++ own_acts s.link item;
+  acts_are = ap (λ (x : List Asked). map Ask x ++ own_acts s.link item) c.calls_are ∙ ap (λ (x : List Act). x ++ own_acts s.link item) (map_more (map asked_in c.made) c.later)
+      ∙ append_assoc (map Ask (map asked_in c.made)) (map Ask c.later) (own_acts s.link item);
+  made = at.made ++ c.made;
+  refused = c.refused;
+  out = at.out ++ [];
+  ran = ran_more set.stripes set.defs done (map Ask (map asked_in c.made)) at.made c.made at.out [] at.ran (ran_calls set.stripes set.defs c.made c.done);
+  grew = rw (append_assoc at.made c.made c.refused) (grew_more set.stripes at.made (c.made ++ c.refused) from l m at.grew c.grew);
+  told = told refusal (rw (append-nil at.out) at.shown);
+  cause = why refusal c.later c.refused c.why o.faults w.faults;
+}
+  where
+    told : {o : Sunk} {out : List ℕ} (refusal : Refusal) → IsShown o w out held → ToldBy (is_write_fault (ended_by line refusal)) o w out held
+    told (refusals.TooMany limit) x = x
+    told refusals.Spent x = x
+    told refusals.NoMemory x = x
+
+    why : (refusal : Refusal) (later : List Asked) (made : List Made) → WhyRefused refusal item s later made → (before after : ℕ) → Stops (ended_by line refusal) s item line (map Ask later ++ own_acts s.link item) made before after
+    why (refusals.TooMany limit) later made (x, more, e, f, t) before after = (refl, x, map Ask more ++ own_acts s.link item, ap (λ (l : List Asked). map Ask l ++ own_acts s.link item) e, f, t)
+    why refusals.Spent later made (x, more, e, f, t) before after = (x, map Ask more ++ own_acts s.link item, ap (λ (l : List Asked). map Ask l ++ own_acts s.link item) e, f, t)
+    why refusals.NoMemory later made (inl h) before after = inl h
+    why refusals.NoMemory later made (inr (x, more, e, f, t)) before after = inr (inl (x, map Ask more ++ own_acts s.link item, ap (λ (l : List Asked). map Ask l ++ own_acts s.link item) e, f, t))
+
+-- an item was heard: the calls of its group were made, and then it acted itself
+pub heard : (set : Setting) (item : Item) (line : ℕ) (result : Option RunEnd) (e mid f : Kept) (l k m : Lists) (w v : Sunk)
+    → Calls set.stripes item None e.script mid.script l k → mid.held ≡ e.held → ActsItself set item line result e.script mid k w f m v → Hears set item line result e l w f m v
+heard set item line None e mid f l k m w v (script, made) held (place, link, goes, acts) = (
+  same_script f.script item e.script (place ∙ ap (λ (s : Script). s.place) script) (link ∙ ap (λ (s : Script). link_after item s.link) script),
+  goes,
+  went_both set _ _ _ _ _ _ _ _ _ _ _ (rw held (called set _ e.held l k w made)) (rw (ap (λ (s : Script). s.link) script) at acts),
+)
+  where
+    same_script : (t : Script) (item : Item) (s : Script) → t.place ≡ (after item s).place → t.link ≡ (after item s).link → t ≡ after item s
+    same_script t item s p q = rw (p, q) refl
+heard set item line (Some end) e mid f l k m w v (script, made) held acts =
+    went_halts set end e.script item line _ _ _ _ _ _ _ _ _ _ _ (rw held (called set _ e.held l k w made)) (rw (ap (λ (s : Script). s.link) script) at acts)
+
+-- there was no memory for a body line, or for the calls of the group
+pub not_heard : (n : ℕ) (item : Item) (s : Script) (l : Lists) → AreSound n l → (kind_of item ≡ Body) ⊎ (0 < size s.place.group) → CallsHalt n refusals.NoMemory item s l l
+not_heard n item s l sound wanted = record {
+  made = [];
+  later = calls_with n s.link item s.place;
+  refused = [];
+  calls_are = refl;
+  done = tt;
+  grew = grew_none n l sound;
+  why = inl (refl, wanted);
+}
+
+-- a line was printed
+pub said : (set : Setting) (spoken : Item) (held new : List ℕ) (l : Lists) (w v : Sunk) → Prints true (line_of set.defs spoken) held new w.written v.written w.faults v.faults → WentOn set (Say spoken ∷ []) held l w new l v
+said set spoken held new l w v p = λ o from done at.
+    acted set (Say spoken) [] (line_of set.defs spoken) held new l l w v (refl, refl) (grew_none set.stripes l (grown_sound set.stripes at.made from l at.grew)) p o from done at
+
+-- a line was cut short
+pub said_short : (set : Setting) (spoken : Item) (held new : List ℕ) (l : Lists) (w v : Sunk) (s : Script) (item : Item) (line : ℕ)
+    → Prints false (line_of set.defs spoken) held new w.written v.written w.faults v.faults → Halts set WriteFault s item line (Say spoken ∷ []) held l w new l v
+said_short set spoken held new l w v s item line p = λ o from done at.
+    acted_short set (Say spoken) [] (line_of set.defs spoken) held new l l w v s item line (refl, refl) (grew_none set.stripes l (grown_sound set.stripes at.made from l at.grew)) p o from done at
+
+-- the last line was printed
+pub ended : (set : Setting) (held new : List ℕ) (l : Lists) (w v : Sunk) (s : Script) (line : ℕ) → Prints true (line_of set.defs items.End) held new w.written v.written w.faults v.faults → Halts set Done s items.End line (Say items.End ∷ []) held l w new l v
+ended set held new l w v s line p = λ o from done at.
+    let next = said set items.End held new l w v p o from done at in
+    record {
+      now = Say items.End ∷ [];
+      later = [];
+      acts_are = refl;
+      made = next.made;
+      refused = [];
+      out = next.out;
+      ran = next.ran;
+      grew = rw (append-nil next.made) next.grew;
+      told = next.shown;
+      cause = (refl, refl, refl);
+    }
+
+-- a step that a run does not have
+pub bad_step : (set : Setting) (s : Script) (item : Item) (line : ℕ) (held : List ℕ) (l : Lists) (w : Sunk) → is_bad item ≡ true → Halts set (BadStep line) s item line [] held l w held l w
+bad_step set s item line held l w bad = halted set (BadStep line) s item line [] held l w refl (λ before after. (bad, refl, refl, refl))
+
+pub far_link : (n : ℕ) → 127 < n → nat_lt 127 n ≡ true
+far_link n h = grind (arith, nat_tests)
+
+pub near_link : (n : ℕ) → n ≤ 127 → nat_lt 127 n ≡ false
+near_link n h = grind (arith, nat_tests)

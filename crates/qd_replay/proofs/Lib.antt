@@ -1,7 +1,8 @@
-pub mod Texts
-pub mod Prints
-pub mod Halts
+mod Texts
+mod Dues
 pub mod Takes
+pub mod Halts
 pub mod Runs
 pub mod DecidingLaws
-mod Rows
+pub mod Legality
+mod Alone

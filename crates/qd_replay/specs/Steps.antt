@@ -1,89 +1,81 @@
 -- What each part of a step does.
-use Rattle.std.specs.Prelude.{ℕ, ◌≡◌, ◌⊎◌, Bool, true, false, Result, Ok, Err, Option, Some, None, List, [], ◌∷◌, ◌++◌, map}
-use Rattle.qd_buffer.specs.Filled.{Filled}
-use Rattle.qd_outside.specs.Causes.{Rose}
-use Rattle.qd_outside.specs.Writing.{Gained, IsCutShort}
-use Rattle.qd_scheme.specs.declared.defs.RecordDef.{RecordDef}
-use Rattle.qd_sub.specs.declared.op.Reply.{Reply}
-use Rattle.qd_sub.specs.declared.op.Reply.TheVariants as replies
-use Rattle.qd_hist_rules.specs.declared.item.HistItem.{HistItem}
-use Rattle.qd_hist_rules.specs.declared.reply.HistoryReply.{HistoryReply}
-use Rattle.qd_hist_rules.specs.declared.reply.HistoryReply.TheVariants as events
+use Rattle.std.specs.Prelude.{ℕ, ◌≡◌, ◌<◌, ◌⊎◌, Bool, true, false, Option, Some, None, List, [], ◌∷◌, ◌++◌, map}
 use Rattle.qd_grammar.specs.declared.item.Collector.{Collector}
 use Rattle.qd_grammar.specs.declared.item.Item.{Item}
-use Rattle.qd_grammar.specs.declared.item.Message.{Message}
 use Rattle.qd_items.specs.declared.ends.RunEnd.{RunEnd}
 use Rattle.qd_items.specs.declared.ends.RunEnd.TheVariants.{Done, BadStep, Refused, WriteFault, Spent, NoMemory}
 use Rattle.qd_items.specs.Judging.{is_end}
-use Rattle.qd_replay.specs.declared.group.Joined.{Joined}
-use Rattle.qd_replay.specs.declared.group.Joined.TheVariants as joins
-use Rattle.qd_replay.specs.declared.kind.Kind.TheVariants.{Body}
-use Rattle.qd_replay.specs.declared.stripes.Stripes.{Stripes}
-use Rattle.qd_replay.specs.declared.stripes.Refusal.{Refusal}
-use Rattle.qd_replay.specs.declared.stripes.Refusal.TheVariants as refusals
-use Rattle.qd_replay.specs.Calls.{Call, Answer, Act}
-use Rattle.qd_replay.specs.Calls.Act.{Ask}
-use Rattle.qd_replay.specs.Replies.{ReplyItem, reply_text}
-use Rattle.qd_replay.specs.Running.{Logs, Ran, Has, AreLegal, Stand, Tells, TellsEvent, IsGranted, IsTurnedDown, IsRefused, logged, text_of}
-use Rattle.qd_replay.specs.Scripts.{Script, Group, no_group, group_with, kind_of, is_bad, after, acts_with, own_acts, led_by, goes_on}
-use Rattle.qd_replay.specs.Settings.{Caps, Setting}
+use Rattle.qd_outside.specs.Causes.{Rose}
+use Rattle.qd_outside.specs.Writing.{Gained, IsCutShort}
+use Rattle.qd_calls.specs.Dues.{TellsLimit, TellsSpent, TellsWant}
+use Rattle.qd_path.specs.declared.call.Asked.{Asked}
+use Rattle.qd_path.specs.declared.kind.Kind.TheVariants.{Body}
+use Rattle.qd_path.specs.Calls.{calls_with, after as place_after}
+use Rattle.qd_path.specs.Groups.{size, kind_of}
+use Rattle.qd_path.specs.Lists.{Lists, GrewBy}
+use Rattle.qd_path.specs.Made.{Made, asked_in, AreDone}
+use Rattle.qd_replay.specs.declared.due.Refusal.{Refusal}
+use Rattle.qd_replay.specs.declared.due.Refusal.TheVariants as refusals
+use Rattle.qd_replay.specs.Running.{Ran, IsRefusal}
+use Rattle.qd_replay.specs.Scripts.{Script, Act, after, acts_with, own_acts, goes_on, is_bad, link_after}
+use Rattle.qd_replay.specs.Scripts.Act.{Ask, Give}
+use Rattle.qd_replay.specs.Settings.{Setting}
 
--- the reply grants a call that wants nothing else, or tells of a limit
-abbrev pub is_plain : {T : Type 0} → Reply T → Bool
-is_plain replies.Done = true
-is_plain replies.TooManyKeys = true
-is_plain replies.TooManySubs = true
-is_plain _ = false
+-- the first of the calls that are due was made, and the rest are due; this is so of its reply
+pub record MadeFirst (n : ℕ) (due rest : List Asked) (Told : Made → Type 0) (l m : Lists) : Type 0 where
+  pub call : Made
+  pub due_is : due ≡ asked_in call ∷ rest
+  pub grew : GrewBy n (call ∷ []) l m
+  pub told : Told call
 
--- a reply grants a call that wants nothing else, or refuses it; want of memory is told only where the reply tells nothing else
-abbrev pub Grants : {T : Type 0} → Reply T → Result (Unit {0}) Refusal → Type 0
-Grants reply (Ok u) = reply ≡ replies.Done
-Grants reply (Err (refusals.TooMany limit)) = Tells (refusals.TooMany limit) reply
-Grants reply (Err refusals.Spent) = Tells refusals.Spent reply
-Grants reply (Err refusals.NoMemory) = is_plain reply ≡ false
+-- the first of the calls that are due was made, and granted or refused
+abbrev pub MakesFirst : ℕ → List Asked → List Asked → Option Refusal → Lists → Lists → Type 0
+MakesFirst n due rest None l m = MadeFirst n due rest (λ x. AreDone (x ∷ [])) l m
+MakesFirst n due rest (Some refusal) l m = MadeFirst n due rest (IsRefusal refusal) l m
 
-abbrev pub has_items : {T : Type 0} → Reply T → Bool
-has_items (replies.Items items) = true
-has_items _ = false
+-- of the calls that were due all but the rest were made, and granted
+pub record MadeSome (n : ℕ) (due rest : List Asked) (l m : Lists) : Type 0 where
+  pub made : List Made
+  pub due_is : due ≡ map asked_in made ++ rest
+  pub done : AreDone made
+  pub grew : GrewBy n made l m
 
--- the items of a reply, if it has any
-abbrev pub HasItems : {T : Type 0} → Reply T → Option (Filled T) → Type 0
-HasItems reply (Some items) = reply ≡ replies.Items items
-HasItems reply None = has_items reply ≡ false
+-- calls were made up to one that was refused
+pub record MadeUpTo (n : ℕ) (due : List Asked) (refusal : Refusal) (l m : Lists) : Type 0 where
+  pub made : List Made
+  pub last : Made
+  pub rest : List Asked
+  pub due_is : due ≡ map asked_in made ++ asked_in last ∷ rest
+  pub done : AreDone made
+  pub refused : IsRefusal refusal last
+  pub grew : GrewBy n (made ++ last ∷ []) l m
 
-abbrev pub is_plain_event : HistoryReply → Bool
-is_plain_event events.Done = true
-is_plain_event events.TooManyKeys = true
-is_plain_event events.TooManySubs = true
-is_plain_event events.HistoryFull = true
-is_plain_event events.Spent = true
-is_plain_event _ = false
+-- all calls that were due were made and granted, or one was refused
+abbrev pub MakesAll : ℕ → List Asked → Option Refusal → Lists → Lists → Type 0
+MakesAll n due None l m = MadeSome n due [] l m
+MakesAll n due (Some refusal) l m = MadeUpTo n due refusal l m
 
-abbrev pub GrantsEvent : HistoryReply → Result (Unit {0}) Refusal → Type 0
-GrantsEvent reply (Ok u) = reply ≡ events.Done
-GrantsEvent reply (Err (refusals.TooMany limit)) = TellsEvent (refusals.TooMany limit) reply
-GrantsEvent reply (Err refusals.Spent) = TellsEvent refusals.Spent reply
-GrantsEvent reply (Err refusals.NoMemory) = is_plain_event reply ≡ false
+-- why of the calls of an item those of `later` were not granted: the first of them was refused, or memory was wanted, for a
+-- body line, for the calls of a group that has lines, or by the reply
+abbrev pub WhyRefused : Refusal → Item → Script → List Asked → List Made → Type 0
+WhyRefused refusals.NoMemory item s later refused =
+    ((refused ≡ []) × ((kind_of item ≡ Body) ⊎ (0 < size s.place.group))) ⊎ ((x : Made) × (more : List Asked) × (later ≡ asked_in x ∷ more) × (refused ≡ x ∷ []) × TellsWant x)
+WhyRefused refusal item s later refused = (x : Made) × (more : List Asked) × (later ≡ asked_in x ∷ more) × (refused ≡ x ∷ []) × IsRefusal refusal x
 
-abbrev pub has_events : HistoryReply → Bool
-has_events (events.Items items) = true
-has_events _ = false
+-- the calls of the group that an item ends, some of which were not granted
+pub record CallsHalt (n : ℕ) (refusal : Refusal) (item : Item) (s : Script) (l m : Lists) : Type 0 where
+  pub made : List Made
+  pub later : List Asked
+  pub refused : List Made
+  pub calls_are : calls_with n s.link item s.place ≡ map asked_in made ++ later
+  pub done : AreDone made
+  pub grew : GrewBy n (made ++ refused) l m
+  pub why : WhyRefused refusal item s later refused
 
-abbrev pub HasEvents : HistoryReply → Option (Filled HistItem) → Type 0
-HasEvents reply (Some items) = reply ≡ events.Items items
-HasEvents reply None = has_events reply ≡ false
-
--- what became of a body line that was pushed
-abbrev pub joined_of : {E : Type 0} → Result (Unit {0}) E → Joined
-joined_of (Ok u) = joins.Joined
-joined_of (Err e) = joins.NoMemory
-
--- these acts, at most one call, were done, or the call was refused; memory is wanted only for a call
-abbrev pub Makes : List Act → Result (Unit {0}) Refusal → Stripes → Stripes → Type 0
-Makes acts (Ok u) s t = (set : Setting) (done : List Act) (out : List ℕ) → Has set done s out → Has set (acts ++ done) t out
-Makes acts (Err (refusals.TooMany limit)) s t = (set : Setting) (done : List Act) (out : List ℕ) → Has set done s out → IsTurnedDown (refusals.TooMany limit) acts set done out
-Makes acts (Err refusals.Spent) s t = (set : Setting) (done : List Act) (out : List ℕ) → Has set done s out → IsTurnedDown refusals.Spent acts set done out
-Makes acts (Err refusals.NoMemory) s t = (call : Call) × (acts ≡ Ask call ∷ [])
+-- the calls of the group that an item ends were made
+abbrev pub Calls : ℕ → Item → Option Refusal → Script → Script → Lists → Lists → Type 0
+Calls n item None s t l m = (t ≡ record { place = place_after item s.place; link = s.link }) × MadeSome n (calls_with n s.link item s.place) [] l m
+Calls n item (Some refusal) s t l m = CallsHalt n refusal item s l m
 
 -- the end of a run at a line that ends a group whose call was refused
 abbrev pub ended_by : ℕ → Refusal → RunEnd
@@ -103,12 +95,6 @@ pub record IsShown (o w : Sunk) (out held : List ℕ) : Type 0 where
   pub whole : out ≡ part ++ held
   pub same : w.faults ≡ o.faults
 
--- since the sink was as it was at `o`, these acts were done
-pub record IsAt (o : Sunk) (set : Setting) (done : List Act) (s : Stripes) (held : List ℕ) (w : Sunk) : Type 0 where
-  pub out : List ℕ
-  pub has : Has set done s out
-  pub shown : IsShown o w out held
-
 abbrev pub is_write_fault : RunEnd → Bool
 is_write_fault WriteFault = true
 is_write_fault _ = false
@@ -118,88 +104,74 @@ abbrev pub ToldBy : Bool → Sunk → Sunk → List ℕ → List ℕ → Type 0
 ToldBy true o w out held = IsCutShort out o.written w.written o.faults w.faults
 ToldBy false o w out held = IsShown o w out held
 
--- why an item ends a run, where it leads to the acts `later` behind those that were done of it; memory is wanted for a body line that joins, or for the call that comes next
-abbrev pub Stops : RunEnd → Caps → Option Message → Item → ℕ → List Act → Logs → ℕ → ℕ → Type 0
-Stops Done caps message item line later logs before after = (is_end item ≡ true) × (later ≡ [])
-Stops (BadStep n) caps message item line later logs before after = (is_bad message item ≡ true) × (n ≡ line) × (later ≡ [])
-Stops (Refused n limit) caps message item line later logs before after =
-    (n ≡ line) × (call : Call) × (more : List Act) × (later ≡ more ++ Ask call ∷ []) × IsRefused caps (refusals.TooMany limit) call logs
-Stops Spent caps message item line later logs before after =
-    (call : Call) × (more : List Act) × (later ≡ more ++ Ask call ∷ []) × IsRefused caps refusals.Spent call logs
-Stops WriteFault caps message item line later logs before after = Rose before after
-Stops NoMemory caps message item line later logs before after =
-    ((kind_of item ≡ Body) × (is_bad message item ≡ false)) ⊎ ((call : Call) × (more : List Act) × (later ≡ more ++ Ask call ∷ []))
-Stops _ caps message item line later logs before after = ⊥
-
--- a run ended at an item that leads to these acts: of these the acts `now` were done, and the acts `later` were not
-pub record IsHalted (end : RunEnd) (message : Option Message) (item : Item) (line : ℕ) (acts : List Act) (o : Sunk) (set : Setting) (done : List Act) (held : List ℕ) (w : Sunk) : Type 0 where
-  pub later : List Act
-  pub now : List Act
-  pub acts_are : acts ≡ later ++ now
-  pub logs : Logs
+-- since the sink and the lists were as they were at `o` and `l`, these acts were done
+pub record IsAt (set : Setting) (o : Sunk) (l : Lists) (done : List Act) (m : Lists) (held : List ℕ) (w : Sunk) : Type 0 where
+  pub made : List Made
   pub out : List ℕ
-  pub ran : Ran set.defs (now ++ done) logs out
-  pub legal : AreLegal set.caps logs
+  pub ran : Ran set.stripes set.defs done made out
+  pub grew : GrewBy set.stripes made l m
+  pub shown : IsShown o w out held
+
+-- memory was wanted: for a body line, for the calls of a group that has lines, by the reply of the call that comes next, or
+-- for what a TAKE is given in
+abbrev pub WantsMemory : Item → Script → List Act → List Made → Type 0
+WantsMemory item s later refused =
+    ((refused ≡ []) × ((kind_of item ≡ Body) ⊎ (0 < size s.place.group)))
+    ⊎ (((x : Made) × (more : List Act) × (later ≡ Ask (asked_in x) ∷ more) × (refused ≡ x ∷ []) × TellsWant x)
+    ⊎ ((c : Collector) × (link : ℕ) × (max : ℕ) × (later ≡ Give c link max ∷ []) × (refused ≡ [])))
+
+-- why an item ends a run, where of what it leads to the acts `later` were not done
+abbrev pub Stops : RunEnd → Script → Item → ℕ → List Act → List Made → ℕ → ℕ → Type 0
+Stops Done s item line later refused before after = (is_end item ≡ true) × (later ≡ []) × (refused ≡ [])
+Stops (BadStep n) s item line later refused before after = (is_bad item ≡ true) × (n ≡ line) × (later ≡ []) × (refused ≡ [])
+Stops (Refused n limit) s item line later refused before after =
+    (n ≡ line) × (x : Made) × (more : List Act) × (later ≡ Ask (asked_in x) ∷ more) × (refused ≡ x ∷ []) × TellsLimit limit x
+Stops Spent s item line later refused before after = (x : Made) × (more : List Act) × (later ≡ Ask (asked_in x) ∷ more) × (refused ≡ x ∷ []) × TellsSpent x
+Stops WriteFault s item line later refused before after = Rose before after × (later ≡ []) × (refused ≡ [])
+Stops NoMemory s item line later refused before after = WantsMemory item s later refused
+Stops _ s item line later refused before after = ⊥
+
+-- a run ended at an item that leads to these acts: of these the acts `now` were done, and the acts `later` were not; beside the
+-- calls of what was done one may have been made, which was refused
+pub record IsHalted (set : Setting) (end : RunEnd) (s : Script) (item : Item) (line : ℕ) (acts : List Act) (o : Sunk) (l : Lists) (done : List Act) (m : Lists) (held : List ℕ) (w : Sunk) : Type 0 where
+  pub now : List Act
+  pub later : List Act
+  pub acts_are : acts ≡ now ++ later
+  pub made : List Made
+  pub refused : List Made
+  pub out : List ℕ
+  pub ran : Ran set.stripes set.defs (done ++ now) made out
+  pub grew : GrewBy set.stripes (made ++ refused) l m
   pub told : ToldBy (is_write_fault end) o w out held
-  pub cause : Stops end set.caps message item line later logs o.faults w.faults
+  pub cause : Stops end s item line later refused o.faults w.faults
 
 -- an engine's state: where its script stands, and what it holds back
 pub record Kept : Type 0 where
   pub script : Script
   pub held : List ℕ
 
--- a group in place of the open one
-abbrev pub with_group : Group → Kept → Kept
-with_group g e = record { script = record { message = e.script.message; link = e.script.link; group = g }; held = e.held }
-
--- no body line is open
-abbrev pub without_group : Kept → Kept
-without_group e = with_group no_group e
-
--- a body line joined the open group, or it is none of this run, or there was no memory for one that is
-abbrev pub Joins : Option Message → Item → Joined → Group → Group → Type 0
-Joins message item joins.Joined g h = (is_bad message item ≡ false) × (h ≡ group_with message item g)
-Joins message item joins.Bad g h = (is_bad message item ≡ true) × (h ≡ g)
-Joins message item joins.NoMemory g h = is_bad message item ≡ false
-
 -- the run went on, with these acts done
-abbrev pub WentOn : List Act → List RecordDef → Kept → Stripes → Sunk → Kept → Stripes → Sunk → Type 0
-WentOn acts defs e s w f t v = (o : Sunk) (caps : Caps) (done : List Act)
-    → IsAt o (record { defs = defs; caps = caps }) done s e.held w → IsAt o (record { defs = defs; caps = caps }) (acts ++ done) t f.held v
+abbrev pub WentOn : Setting → List Act → List ℕ → Lists → Sunk → List ℕ → Lists → Sunk → Type 0
+WentOn set acts held l w new m v = (o : Sunk) (from : Lists) (done : List Act) → IsAt set o from done l held w → IsAt set o from (done ++ acts) m new v
 
 -- the run ended
-abbrev pub Halts : RunEnd → Item → ℕ → List Act → List RecordDef → Kept → Stripes → Sunk → Kept → Sunk → Type 0
-Halts end item line acts defs e s w f v =
-    (o : Sunk) (caps : Caps) (done : List Act)
-    → IsAt o (record { defs = defs; caps = caps }) done s e.held w → IsHalted end e.script.message item line acts o (record { defs = defs; caps = caps }) done f.held v
+abbrev pub Halts : Setting → RunEnd → Script → Item → ℕ → List Act → List ℕ → Lists → Sunk → List ℕ → Lists → Sunk → Type 0
+Halts set end s item line acts held l w new m v =
+    (o : Sunk) (from : Lists) (done : List Act) → IsAt set o from done l held w → IsHalted set end s item line acts o from done m new v
 
 -- an item was heard
-abbrev pub Hears : Item → ℕ → List RecordDef → Option RunEnd → Kept → Stripes → Sunk → Kept → Stripes → Sunk → Type 0
-Hears item line defs None e s w f t v =
-    (f.script ≡ after item e.script) × (goes_on item e.script.message ≡ true) × WentOn (acts_with item e.script) defs e s w f t v
-Hears item line defs (Some end) e s w f t v = Halts end item line (acts_with item e.script) defs e s w f v
+abbrev pub Hears : Setting → Item → ℕ → Option RunEnd → Kept → Lists → Sunk → Kept → Lists → Sunk → Type 0
+Hears set item line None e l w f m v = (f.script ≡ after item e.script) × (goes_on item ≡ true) × WentOn set (acts_with set.stripes item e.script) e.held l w f.held m v
+Hears set item line (Some end) e l w f m v = Halts set end e.script item line (acts_with set.stripes item e.script) e.held l w f.held m v
 
--- an item that ends a group did what it does itself
-abbrev pub ActsItself : Item → ℕ → List RecordDef → Option RunEnd → Kept → Stripes → Sunk → Kept → Stripes → Sunk → Type 0
-ActsItself item line defs None e s w f t v =
-    (f.script ≡ led_by item e.script.message e.script.link) × (goes_on item e.script.message ≡ true) × WentOn (own_acts e.script.link item) defs e s w f t v
-ActsItself item line defs (Some end) e s w f t v = Halts end item line (own_acts e.script.link item) defs e s w f v
+-- an item did what it does itself, behind the calls of the group that it ends; `s` is where the script stood before it
+abbrev pub ActsItself : Setting → Item → ℕ → Option RunEnd → Script → Kept → Lists → Sunk → Kept → Lists → Sunk → Type 0
+ActsItself set item line None s e l w f m v =
+    (f.script.place ≡ e.script.place) × (f.script.link ≡ link_after item e.script.link) × (goes_on item ≡ true) × WentOn set (own_acts e.script.link item) e.held l w f.held m v
+ActsItself set item line (Some end) s e l w f m v = Halts set end s item line (own_acts e.script.link item) e.held l w f.held m v
 
--- a call was made, and answered so
-abbrev pub Turns : (call : Call) → Answer call → Stripes → Stripes → Type 0
-Turns call reply s t =
-    (caps : Caps) (logs : Logs) → Stand caps s logs → AreLegal caps logs → Stand caps t (logged logs call reply) × AreLegal caps (logged logs call reply)
-
--- a call was answered, and this is what is printed of it; of lawful replies none is without a text
-abbrev pub Gives : Call → Option (List RecordDef → List ℕ) → Stripes → Stripes → Type 0
-Gives call (Some text) s t = (reply : Answer call) × IsGranted call reply × ((defs : List RecordDef) → text_of defs call reply ≡ text defs) × Turns call reply s t
-Gives call None s t = (caps : Caps) (logs : Logs) → Stand caps s logs → AreLegal caps logs → ⊥
-
--- what is printed of items that an agent was given
-abbrev pub given_text : {T : Type 0} → (T → ReplyItem) → Collector → ℕ → Filled T → List RecordDef → List ℕ
-given_text shown collector link given defs = reply_text defs link collector (map shown given.items)
-
--- a call was made, and its reply printed
-abbrev pub Takes : Call → List RecordDef → Option RunEnd → Kept → Stripes → Sunk → Kept → Stripes → Sunk → Type 0
-Takes call defs None e s w f t v = WentOn (Ask call ∷ []) defs e s w f t v
-Takes call defs (Some end) e s w f t v = (item : Item) (line : ℕ) → Halts end item line (Ask call ∷ []) defs e s w f v
+-- a collector was asked for at most so many items for a link, and they were printed; or a write failed, or there was no memory
+-- for what they are given in
+abbrev pub Given : Setting → Collector → ℕ → ℕ → Option RunEnd → List ℕ → Lists → Sunk → List ℕ → Lists → Sunk → Type 0
+Given set c link max None held l w new m v = WentOn set (Give c link max ∷ []) held l w new m v
+Given set c link max (Some end) held l w new m v = (s : Script) (item : Item) (line : ℕ) → Halts set end s item line (Give c link max ∷ []) held l w new m v

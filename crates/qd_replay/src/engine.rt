@@ -1,36 +1,38 @@
 //! What a script's items ask for is done.
-ghost use Rattle.std.specs.Prelude.{◌≡◌, ◌<◌, ◌≤◌, ◌∷◌, [], true, false, ℕ, List, IfOk, length, map};
+ghost use Rattle.std.specs.Prelude.{◌≡◌, ◌<◌, ◌≤◌, [], true, false, IfOk};
 ghost use Rattle.qd_outside.specs.Buffering.{Prints, Drains};
-ghost use Rattle.qd_scheme.specs.declared.defs.RecordDef.{RecordDef};
-ghost use Rattle.qd_replay.specs.declared.stripes.Stripes.{Stripes};
-ghost use Rattle.qd_replay.specs.declared.kind.Kind.{Kind};
-ghost use Rattle.qd_replay.specs.Replies.{line_of, reply_text};
-ghost use Rattle.qd_replay.specs.Scripts.{start, size, kind_of, calls_of, own_acts, no_group};
-ghost use Rattle.qd_replay.specs.Steps.{Makes, Hears, ActsItself, Takes, Halts, Sunk, ended_by, without_group};
+ghost use Rattle.qd_path.specs.Groups.{size};
+ghost use Rattle.qd_path.specs.Lists.{Lists, AreOf};
+ghost use Rattle.qd_path.specs.Texts.{line_of};
+ghost use Rattle.qd_replay.specs.Scripts.{Script, start, is_taking};
+ghost use Rattle.qd_replay.specs.Steps.{Calls, Given, ActsItself, Hears, ended_by};
 
-use crate::given::{Given, Spares, take_buffer};
-use crate::group::{Joined, OpenGroup};
-use crate::kind::{Kind, is_taking, kind_of};
-use crate::output::Output;
-use crate::stripes::{Refusal, Stripes};
-use qd_buffer::Buffer;
-use qd_grammar::{Collector, Item, Message};
+use crate::due::{Refusal, make_all};
+use crate::given::{Giver, Room, take_all};
+use crate::printing::Printing;
+use qd_calls::Reading;
+use qd_grammar::{Collector, Item};
 use qd_history::HistItem;
+use qd_hub::Hub;
 use qd_items::RunEnd;
 use qd_outside::Sink;
+use qd_path::Asked;
+use qd_replies::{Events, Items, Records};
 use qd_scheme::{AgentNo, Record, Scheme};
 use qd_stream::StreamItem;
-use std::alloc::Global;
+use std::alloc::{AllocError, Global};
 use std::marker::Model;
 
 /// Does what the items of a script ask for, one after the other.
 #[derive(Drop)]
 pub struct Engine {
-    message: Option<Message>,
+    reading: Reading,
     link: AgentNo,
-    group: OpenGroup,
-    spares: Spares,
-    output: Output,
+    due: Vec<Asked>,
+    records: Option<Room<Record>>,
+    items: Option<Room<StreamItem>>,
+    events: Option<Room<HistItem>>,
+    printing: Printing,
 }
 
 impl Model for Engine {
@@ -38,270 +40,16 @@ impl Model for Engine {
 
     ghost Value = { Kept };
 
-    ghost view = { λ e. record {
-      script = record { message = e.message; link = e.link; group = e.group };
-      held = e.output;
-    } };
+    ghost view = { λ e. record { script = record { place = e.reading; link = e.link }; held = e.printing } };
 }
 
-impl Engine {
-    /// Before the first item: no head, link 0, no group, nothing printed.
-    pub fn new(alloc: Global) -> Engine
-        ensures { result ≡ record { script = start; held = [] } }
-    {
-        Engine {
-            message: None,
-            link: first_agent(),
-            group: OpenGroup::new(alloc),
-            spares: Spares {
-                records: None,
-                items: None,
-                events: None,
-            },
-            output: Output::new(alloc),
-        }
-    }
-
-    /// Makes the call of the open group, and opens another one.
-    fn call_group(&mut self, alloc: Global, stripes: &mut Stripes) -> Result<(), Refusal>
-        requires { size self.old.script.group ≤ 4096 }
-        ensures made { Makes (calls_of self.old.script.message self.old.script.link self.old.script.group) result stripes.old stripes.new }
-        ensures cleared { IfOk result (λ _. self.new ≡ without_group self.old) }
-        ensures held { self.new.held ≡ self.old.held }
-    {
-        self.group.call(alloc, self.message, self.link, stripes)?;
-        self.group.clear();
-        Ok(())
-    }
-
-    /// A body line: it joins the group, which is called once it is full.
-    fn body(
-        &mut self,
-        alloc: Global,
-        stripes: &mut Stripes,
-        item: &Item,
-        line: u64,
-    ) -> Option<RunEnd>
-        requires body { kind_of item.now ≡ Kind.Body }
-        requires few { size self.old.script.group < 4096 }
-        ensures { (defs : List RecordDef) (w : Sunk) → Hears item.now line defs result self.old stripes.old w self.new stripes.new w }
-    {
-        match self.group.join(self.message, item) {
-            Joined::Bad => Some(RunEnd::BadStep { line }),
-            Joined::NoMemory => Some(RunEnd::NoMemory),
-            Joined::Joined => {
-                if !self.group.is_full() {
-                    return None;
-                }
-                match self.call_group(alloc, stripes) {
-                    Ok(()) => None,
-                    Err(refusal) => Some(ended_by(refusal, line)),
-                }
-            }
-        }
-    }
-
-    /// Prints the canonical line of an item.
-    fn say<K: Sink>(&mut self, scheme: &Scheme, item: &Item, sink: &mut K) -> bool
-        ensures printed { Prints result (line_of scheme.now item.now) self.old.held self.new.held (K.written sink.old) (K.written sink.new) (K.faults sink.old) (K.faults sink.new) }
-        ensures script { self.new.script ≡ self.old.script }
-    {
-        self.output.say(scheme, item, sink)
-    }
-
-    /// The agent of the current link.
-    fn current_link(&self) -> AgentNo
-        ensures { result ≡ self.now.script.link }
-    {
-        self.link
-    }
-
-    /// Asks a collector for at most n items for the current link, and prints them.
-    fn take_of<T: Given, K: Sink>(
-        &mut self,
-        alloc: Global,
-        scheme: &Scheme,
-        stripes: &mut Stripes,
-        n: u16,
-        sink: &mut K,
-    ) -> Option<RunEnd>
-        requires low { 1 ≤ n }
-        requires high { n ≤ 4096 }
-        ensures script { self.new.script ≡ self.old.script }
-        ensures takes { Takes (T.take_call self.old.script.link n) scheme.now result self.old stripes.old (record { written = K.written sink.old; faults = K.faults sink.old }) self.new stripes.new (record { written = K.written sink.new; faults = K.faults sink.new }) }
-    {
-        let out = match take_buffer(alloc, &mut self.spares) {
-            Err(_) => return Some(RunEnd::NoMemory),
-            Ok(out) => out,
-        };
-        match T::take(stripes, self.current_link(), n, out) {
-            // No lawful reply to a TAKE is without items.
-            None => Some(RunEnd::NoMemory),
-            Some(items) => {
-                if !self.show(scheme, items, sink) {
-                    return Some(RunEnd::WriteFault);
-                }
-                None
-            }
-        }
-    }
-
-    /// Prints a reply to the current link, and keeps its buffer.
-    fn show<T: Given, K: Sink>(&mut self, scheme: &Scheme, items: Buffer<T>, sink: &mut K) -> bool
-        ensures script { self.new.script ≡ self.old.script }
-        ensures printed { Prints result (reply_text scheme.now self.old.script.link T.giver (map T.shown items.items)) self.old.held self.new.held (K.written sink.old) (K.written sink.new) (K.faults sink.old) (K.faults sink.new) }
-    {
-        let link = self.link.get();
-        let shown = self
-            .output
-            .reply(scheme, link, T::collector(), items.as_slice(), sink);
-        T::keep(&mut self.spares, items);
-        shown
-    }
-
-    /// A TAKE.
-    fn take<K: Sink>(
-        &mut self,
-        alloc: Global,
-        scheme: &Scheme,
-        stripes: &mut Stripes,
-        collector: Collector,
-        n: u64,
-        line: u64,
-        sink: &mut K,
-    ) -> Option<RunEnd>
-        requires { self.old.script.group ≡ no_group }
-        ensures { ActsItself (Item.Take collector n) line scheme.now result self.old stripes.old (record { written = K.written sink.old; faults = K.faults sink.old }) self.new stripes.new (record { written = K.written sink.new; faults = K.faults sink.new }) }
-    {
-        if !is_taking(n) {
-            return Some(RunEnd::BadStep { line });
-        }
-        match collector {
-            Collector::Ticker => {
-                self.take_of::<Record, K>(alloc, scheme, stripes, n as u16, sink)
-            }
-            Collector::Stream => {
-                self.take_of::<StreamItem, K>(alloc, scheme, stripes, n as u16, sink)
-            }
-            Collector::History => {
-                self.take_of::<HistItem, K>(alloc, scheme, stripes, n as u16, sink)
-            }
-        }
-    }
-
-    /// A LINK.
-    fn go_to(&mut self, n: u64, line: u64) -> Option<RunEnd>
-        requires { self.old.script.group ≡ no_group }
-        ensures { (defs : List RecordDef) (s : Stripes) (w : Sunk) → ActsItself (Item.Link n) line defs result self.old s w self.new s w }
-    {
-        if n > 127 {
-            return Some(RunEnd::BadStep { line });
-        }
-        self.link = agent_of(n as u8);
-        None
-    }
-
-    /// PROTOCOL: its line is printed.
-    fn greet<K: Sink>(&mut self, scheme: &Scheme, line: u64, sink: &mut K) -> Option<RunEnd>
-        requires { self.old.script.group ≡ no_group }
-        ensures { (s : Stripes) → ActsItself Item.Protocol line scheme.now result self.old s (record { written = K.written sink.old; faults = K.faults sink.old }) self.new s (record { written = K.written sink.new; faults = K.faults sink.new }) }
-    {
-        if !self.say(scheme, &Item::Protocol, sink) {
-            return Some(RunEnd::WriteFault);
-        }
-        None
-    }
-
-    /// END: its line is printed.
-    fn end<K: Sink>(&mut self, scheme: &Scheme, line: u64, sink: &mut K) -> RunEnd
-        ensures { (s : Stripes) → Halts result Item.End line (own_acts self.old.script.link Item.End) scheme.now self.old s (record { written = K.written sink.old; faults = K.faults sink.old }) self.new (record { written = K.written sink.new; faults = K.faults sink.new }) }
-    {
-        if !self.say(scheme, &Item::End, sink) {
-            return RunEnd::WriteFault;
-        }
-        RunEnd::Done
-    }
-
-    /// A line that ends a group does what it does itself.
-    fn act<K: Sink>(
-        &mut self,
-        alloc: Global,
-        scheme: &Scheme,
-        stripes: &mut Stripes,
-        item: &Item,
-        line: u64,
-        sink: &mut K,
-    ) -> Option<RunEnd>
-        requires control { kind_of item.now ≡ Kind.Control }
-        requires closed { self.old.script.group ≡ no_group }
-        ensures { ActsItself item.now line scheme.now result self.old stripes.old (record { written = K.written sink.old; faults = K.faults sink.old }) self.new stripes.new (record { written = K.written sink.new; faults = K.faults sink.new }) }
-    {
-        match item {
-            Item::Protocol => self.greet(scheme, line, sink),
-            Item::End => Some(self.end(scheme, line, sink)),
-            Item::Head(message) => {
-                self.message = Some(*message);
-                None
-            }
-            Item::Link(n) => self.go_to(*n, line),
-            Item::Take(collector, n) => {
-                self.take(alloc, scheme, stripes, *collector, *n, line, sink)
-            }
-            Item::Node(_, _) | Item::At(_, _) | Item::Pump(_) | Item::Move(_, _, _) => {
-                Some(RunEnd::BadStep { line })
-            }
-            Item::Heartbeat | Item::Time(_) => None,
-            _ => unreachable!(),
-        }
-    }
-
-    /// A line that ends a group: the group is called, and then the line acts itself.
-    fn control<K: Sink>(
-        &mut self,
-        alloc: Global,
-        scheme: &Scheme,
-        stripes: &mut Stripes,
-        item: &Item,
-        line: u64,
-        sink: &mut K,
-    ) -> Option<RunEnd>
-        requires control { kind_of item.now ≡ Kind.Control }
-        requires few { size self.old.script.group < 4096 }
-        ensures { Hears item.now line scheme.now result self.old stripes.old (record { written = K.written sink.old; faults = K.faults sink.old }) self.new stripes.new (record { written = K.written sink.new; faults = K.faults sink.new }) }
-    {
-        match self.call_group(alloc, stripes) {
-            Ok(()) => self.act(alloc, scheme, stripes, item, line, sink),
-            Err(refusal) => Some(ended_by(refusal, line)),
-        }
-    }
-
-    /// Does what the next item of the script asks for. None where the script goes on.
-    pub fn hear<K: Sink>(
-        &mut self,
-        alloc: Global,
-        scheme: &Scheme,
-        stripes: &mut Stripes,
-        item: &Item,
-        line: u64,
-        sink: &mut K,
-    ) -> Option<RunEnd>
-        requires { size self.old.script.group < 4096 }
-        ensures { Hears item.now line scheme.now result self.old stripes.old (record { written = K.written sink.old; faults = K.faults sink.old }) self.new stripes.new (record { written = K.written sink.new; faults = K.faults sink.new }) }
-    {
-        match kind_of(item) {
-            Kind::Body => self.body(alloc, stripes, item, line),
-            Kind::Description => None,
-            Kind::Control => self.control(alloc, scheme, stripes, item, line, sink),
-        }
-    }
-
-    /// Writes all that was printed.
-    pub fn drain<K: Sink>(&mut self, sink: &mut K) -> bool
-        ensures script { self.new.script ≡ self.old.script }
-        ensures drains { Drains result self.old.held self.new.held (K.written sink.old) (K.written sink.new) (K.flushed sink.new) (K.faults sink.old) (K.faults sink.new) }
-    {
-        self.output.drain(sink)
-    }
+/// A TAKE asks for 1 to 4096 items.
+fn is_taking(n: u64) -> bool
+    ensures taking { result ≡ is_taking n }
+    ensures low { result ≡ true → 1 ≤ n }
+    ensures high { result ≡ true → n ≤ 4096 }
+{
+    n > 0 && n <= 4096
 }
 
 /// The end of a run whose call was refused.
@@ -326,12 +74,222 @@ fn agent_of(n: u8) -> AgentNo
     }
 }
 
-/// The agent of the first link.
-fn first_agent() -> AgentNo
-    ensures { result ≡ 0 }
+/// What a TAKE is given in: that of an earlier one, where there is one.
+fn room_of<T: Copy>(alloc: Global, slot: &mut Option<Room<T>>) -> Result<Room<T>, AllocError>
+    ensures { IfOk result (λ r. r ≡ []) }
 {
-    match AgentNo::of(0) {
-        Some(agent) => agent,
-        None => unreachable!(),
+    match slot.take() {
+        Some(mut room) => {
+            room.clear();
+            Ok(room)
+        }
+        None => Room::new(alloc),
+    }
+}
+
+/// Asks the stripes of a collector for at most `n` items for a link, and prints them.
+fn give<H: Hub, G: Giver<H>, K: Sink>(
+    alloc: Global,
+    scheme: &Scheme,
+    hub: &mut H,
+    link: AgentNo,
+    n: u16,
+    slot: &mut Option<Room<G::Given>>,
+    printing: &mut Printing,
+    sink: &mut K,
+) -> Option<RunEnd>
+    requires alone { H.is_alone hub.old }
+    requires high { n ≤ 4096 }
+    ensures same { (H.home hub.new ≡ H.home hub.old) × (H.stripes hub.new ≡ H.stripes hub.old) }
+    ensures alone { H.is_alone hub.new }
+    ensures gives { (l : Lists) → AreOf (H.stripes hub.old) (H.ticker hub.old) (H.stream hub.old) (H.history hub.old) l
+        → (m : Lists) × AreOf (H.stripes hub.old) (H.ticker hub.new) (H.stream hub.new) (H.history hub.new) m
+        × Given (record { defs = scheme.now; stripes = H.stripes hub.old }) G.giver link n result printing.old l (record { written = K.written sink.old; faults = K.faults sink.old }) printing.new m (record { written = K.written sink.new; faults = K.faults sink.new }) }
+{
+    let room = match room_of(alloc, slot) {
+        Err(_) => return Some(RunEnd::NoMemory),
+        Ok(room) => room,
+    };
+    let room = take_all::<H, G>(hub, link, n, room);
+    let shown = printing.reply::<G, K>(scheme, link.get(), G::collector(), room.items(), sink);
+    *slot = Some(room);
+    if !shown {
+        return Some(RunEnd::WriteFault);
+    }
+    None
+}
+
+impl Engine {
+    /// Before the first item: no head, link 0, no group, nothing printed.
+    pub fn new(alloc: Global) -> Result<Engine, AllocError>
+        ensures { IfOk result (λ e. e ≡ record { script = start; held = [] }) }
+    {
+        Ok(Engine {
+            reading: Reading::new(alloc),
+            link: agent_of(0),
+            due: Vec::new(alloc),
+            records: None,
+            items: None,
+            events: None,
+            printing: Printing::new(alloc)?,
+        })
+    }
+
+    /// Makes the calls of the group that an item ends. None where they were granted.
+    fn call<H: Hub>(&mut self, alloc: Global, hub: &mut H, item: &Item) -> Option<Refusal>
+        requires alone { H.is_alone hub.old }
+        requires few { size self.old.script.place.group < 4096 }
+        ensures same { (H.home hub.new ≡ H.home hub.old) × (H.stripes hub.new ≡ H.stripes hub.old) }
+        ensures alone { H.is_alone hub.new }
+        ensures held { self.new.held ≡ self.old.held }
+        ensures calls { (l : Lists) → AreOf (H.stripes hub.old) (H.ticker hub.old) (H.stream hub.old) (H.history hub.old) l
+            → (m : Lists) × AreOf (H.stripes hub.old) (H.ticker hub.new) (H.stream hub.new) (H.history hub.new) m
+            × Calls (H.stripes hub.old) item.now result self.old.script self.new.script l m }
+    {
+        self.due.clear();
+        let heard = self
+            .reading
+            .hear(alloc, hub.stripes(), self.link, item, &mut self.due);
+        if heard.is_err() {
+            return Some(Refusal::NoMemory);
+        }
+        make_all(hub, &mut self.due)
+    }
+
+    /// Prints the canonical line of an item.
+    fn say<K: Sink>(&mut self, scheme: &Scheme, item: &Item, sink: &mut K) -> bool
+        ensures printed { Prints result (line_of scheme.now item.now) self.old.held self.new.held (K.written sink.old) (K.written sink.new) (K.faults sink.old) (K.faults sink.new) }
+        ensures script { self.new.script ≡ self.old.script }
+    {
+        self.printing.say(scheme, item, sink)
+    }
+
+    /// A TAKE.
+    fn take<H: Hub, K: Sink>(
+        &mut self,
+        alloc: Global,
+        scheme: &Scheme,
+        hub: &mut H,
+        collector: Collector,
+        n: u16,
+        sink: &mut K,
+    ) -> Option<RunEnd>
+        requires alone { H.is_alone hub.old }
+        requires high { n ≤ 4096 }
+        ensures same { (H.home hub.new ≡ H.home hub.old) × (H.stripes hub.new ≡ H.stripes hub.old) }
+        ensures alone { H.is_alone hub.new }
+        ensures script { self.new.script ≡ self.old.script }
+        ensures gives { (l : Lists) → AreOf (H.stripes hub.old) (H.ticker hub.old) (H.stream hub.old) (H.history hub.old) l
+            → (m : Lists) × AreOf (H.stripes hub.old) (H.ticker hub.new) (H.stream hub.new) (H.history hub.new) m
+            × Given (record { defs = scheme.now; stripes = H.stripes hub.old }) collector self.old.script.link n result self.old.held l (record { written = K.written sink.old; faults = K.faults sink.old }) self.new.held m (record { written = K.written sink.new; faults = K.faults sink.new }) }
+    {
+        let link = self.link;
+        let to = &mut self.printing;
+        match collector {
+            Collector::Ticker => {
+                give::<H, Records, K>(alloc, scheme, hub, link, n, &mut self.records, to, sink)
+            }
+            Collector::Stream => {
+                give::<H, Items, K>(alloc, scheme, hub, link, n, &mut self.items, to, sink)
+            }
+            Collector::History => {
+                give::<H, Events, K>(alloc, scheme, hub, link, n, &mut self.events, to, sink)
+            }
+        }
+    }
+
+    /// A LINK. False where there is no such link.
+    fn go_to(&mut self, n: u64) -> bool
+        ensures far { result ≡ false → 127 < n }
+        ensures went { result ≡ true → (n ≤ 127) × (self.new.script.link ≡ n) × (self.new.script.place ≡ self.old.script.place) × (self.new.held ≡ self.old.held) }
+        ensures stayed { result ≡ false → self.new ≡ self.old }
+    {
+        if n > 127 {
+            return false;
+        }
+        self.link = agent_of(n as u8);
+        true
+    }
+
+    /// What an item does itself, behind the calls of the group that it ends.
+    #[tactic(auto, using(crate::proofs::Halts::bad_step))]
+    fn act<H: Hub, K: Sink>(
+        &mut self,
+        alloc: Global,
+        scheme: &Scheme,
+        hub: &mut H,
+        item: &Item,
+        line: u64,
+        sink: &mut K,
+    ) -> Option<RunEnd>
+        requires alone { H.is_alone hub.old }
+        ensures same { (H.home hub.new ≡ H.home hub.old) × (H.stripes hub.new ≡ H.stripes hub.old) }
+        ensures alone { H.is_alone hub.new }
+        ensures acts { (l : Lists) → AreOf (H.stripes hub.old) (H.ticker hub.old) (H.stream hub.old) (H.history hub.old) l
+            → (m : Lists) × AreOf (H.stripes hub.old) (H.ticker hub.new) (H.stream hub.new) (H.history hub.new) m
+            × ((s : Script) → ActsItself (record { defs = scheme.now; stripes = H.stripes hub.old }) item.now line result s self.old l (record { written = K.written sink.old; faults = K.faults sink.old }) self.new m (record { written = K.written sink.new; faults = K.faults sink.new })) }
+    {
+        match item {
+            Item::Protocol => {
+                if !self.say(scheme, &Item::Protocol, sink) {
+                    return Some(RunEnd::WriteFault);
+                }
+                None
+            }
+            Item::End => {
+                if !self.say(scheme, &Item::End, sink) {
+                    return Some(RunEnd::WriteFault);
+                }
+                Some(RunEnd::Done)
+            }
+            Item::Link(n) => {
+                if !self.go_to(*n) {
+                    return Some(RunEnd::BadStep { line });
+                }
+                None
+            }
+            Item::Take(collector, n) => {
+                if !is_taking(*n) {
+                    return Some(RunEnd::BadStep { line });
+                }
+                self.take(alloc, scheme, hub, *collector, *n as u16, sink)
+            }
+            Item::Node(_, _) | Item::At(_, _) | Item::Pump(_) | Item::Move(_, _, _) => {
+                Some(RunEnd::BadStep { line })
+            }
+            _ => None,
+        }
+    }
+
+    /// Does what the next item of the script asks for. None where the script goes on.
+    pub fn hear<H: Hub, K: Sink>(
+        &mut self,
+        alloc: Global,
+        scheme: &Scheme,
+        hub: &mut H,
+        item: &Item,
+        line: u64,
+        sink: &mut K,
+    ) -> Option<RunEnd>
+        requires alone { H.is_alone hub.old }
+        requires few { size self.old.script.place.group < 4096 }
+        ensures same { (H.home hub.new ≡ H.home hub.old) × (H.stripes hub.new ≡ H.stripes hub.old) }
+        ensures alone { H.is_alone hub.new }
+        ensures hears { (l : Lists) → AreOf (H.stripes hub.old) (H.ticker hub.old) (H.stream hub.old) (H.history hub.old) l
+            → (m : Lists) × AreOf (H.stripes hub.old) (H.ticker hub.new) (H.stream hub.new) (H.history hub.new) m
+            × Hears (record { defs = scheme.now; stripes = H.stripes hub.old }) item.now line result self.old l (record { written = K.written sink.old; faults = K.faults sink.old }) self.new m (record { written = K.written sink.new; faults = K.faults sink.new }) }
+    {
+        if let Some(refusal) = self.call(alloc, hub, item) {
+            return Some(ended_by(refusal, line));
+        }
+        self.act(alloc, scheme, hub, item, line, sink)
+    }
+
+    /// Writes all that was printed.
+    pub fn drain<K: Sink>(&mut self, sink: &mut K) -> bool
+        ensures script { self.new.script ≡ self.old.script }
+        ensures drains { Drains result self.old.held self.new.held (K.written sink.old) (K.written sink.new) (K.flushed sink.new) (K.faults sink.old) (K.faults sink.new) }
+    {
+        self.printing.drain(sink)
     }
 }

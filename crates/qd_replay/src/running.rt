@@ -6,111 +6,128 @@ ghost use Rattle.qd_items.specs.Gives.{told};
 ghost use Rattle.qd_items.specs.Standing.{opening};
 ghost use Rattle.qd_items.specs.Steps.{Steps, WillRead};
 ghost use Rattle.qd_outside.specs.Buffering.{Prints};
+ghost use Rattle.qd_path.specs.Groups.{size};
+ghost use Rattle.qd_path.specs.Lists.{Lists, AreOf};
 ghost use Rattle.qd_replay.specs.Deciding.{IsSound, NoFault};
-ghost use Rattle.qd_replay.specs.Ends.{Ends, IsEnded, IsFlushed, Finishes, Outside, LastBy};
-ghost use Rattle.qd_replay.specs.Running.{Stand, caps_of, no_logs};
-ghost use Rattle.qd_replay.specs.Scripts.{start, size};
+ghost use Rattle.qd_path.specs.Made.{Made};
+ghost use Rattle.qd_replay.specs.Ends.{Ends, RunsOver, IsEnded, IsFlushed, Finishes, LastBy};
+ghost use Rattle.qd_replay.specs.Scripts.{start};
+ghost use Rattle.qd_replay.specs.Settings.{StandsForNothing, AreEmpty, books_of, own_books};
 ghost use Rattle.qd_replay.specs.Steps.{is_write_fault};
 
 use crate::engine::Engine;
-use crate::stripes::Stripes;
 use qd_grammar::{Item, Mode};
+use qd_hub::{Config, Hub, OwnHub};
 use qd_items::{Items, RunEnd, TextEnd, Turn};
-use qd_outside::{Sink, Source};
+use qd_outside::{OutBuffer, Sink, Source};
 use qd_scheme::Scheme;
 use std::alloc::Global;
 
-/// Runs a script on new collectors, where at most `cap` items wait for an agent of the stream and at most
-/// `hcap` events are owed to an agent of the history: makes the calls that its groups ask for, and prints the replies to its TAKEs. All
-/// that was printed is written before each read, so that whoever writes the script may wait for an answer, and before the
-/// run ends.
-pub fn replay<S: Source, K: Sink>(
+/// Runs a script on a new hub that no other thread calls: makes the calls that its groups ask for, and prints the replies to its
+/// TAKEs. A TAKE goes from stripe to stripe. All that was printed is written before each read, so that whoever writes the script
+/// may wait for an answer, and before the run ends.
+pub fn replay<H: Hub, S: Source, K: Sink>(
     alloc: Global,
     scheme: &Scheme,
-    cap: u16,
-    hcap: u16,
+    hub: &mut H,
     source: &mut S,
     sink: &mut K,
 ) -> RunEnd
-    requires cap { (1 ≤ cap) × (cap ≤ 4096) }
-    requires hcap { (1 ≤ hcap) × (hcap ≤ 4096) }
-    // The run ends with a cause, and what is written is the text of what was done.
-    ensures ends { Ends (record { defs = scheme.now; caps = record { cap = cap; hcap = hcap } }) result
+    requires alone { H.is_alone hub.old }
+    requires new { StandsForNothing (H.stripes hub.old) (H.ticker hub.old) (H.stream hub.old) (H.history hub.old) }
+    ensures same { (H.home hub.new ≡ H.home hub.old) × (H.stripes hub.new ≡ H.stripes hub.old) × H.is_alone hub.new }
+    // The run ends with a cause, and what is written is the text of what was done, in one legal log of each stripe.
+    ensures ends { (l : Lists) → AreOf (H.stripes hub.old) (H.ticker hub.old) (H.stream hub.old) (H.history hub.old) l → AreEmpty (H.stripes hub.old) l
+        → (m : Lists) × AreOf (H.stripes hub.old) (H.ticker hub.new) (H.stream hub.new) (H.history hub.new) m
+        × RunsOver (record { defs = scheme.now; stripes = H.stripes hub.old }) l m result
         (record { left = S.left source.old; reads = S.faults source.old; written = K.written sink.old; writes = K.faults sink.old })
         (record { left = S.left source.new; reads = S.faults source.new; written = K.written sink.new; writes = K.faults sink.new }) }
     ensures flushed { IsFlushed result (K.flushed sink.new) }
     ensures kept { S.kept source.new ≡ S.kept source.old }
     // A sound script is done, where no fault is counted; but for want of memory.
-    ensures decided { (text : List ℕ) → S.left source.old ≡ Some text → IsSound (record { defs = scheme.now; caps = record { cap = cap; hcap = hcap } }) text
+    ensures decided { (l : Lists) (text : List ℕ) → AreOf (H.stripes hub.old) (H.ticker hub.old) (H.stream hub.old) (H.history hub.old) l → AreEmpty (H.stripes hub.old) l
+        → S.left source.old ≡ Some text → IsSound (record { defs = scheme.now; stripes = H.stripes hub.old }) (books_of l) text
         → NoFault (S.faults source.old) (S.faults source.new) (K.faults sink.old) (K.faults sink.new)
         → (result ≡ RunEnd.Done) ⊎ (result ≡ RunEnd.NoMemory) }
 {
-    replay_seeded(alloc, 0, scheme, cap, hcap, source, sink)
-}
-
-/// The same, with the keys of the collectors hashed by a seed, on which nothing that is printed depends.
-pub fn replay_seeded<S: Source, K: Sink>(
-    alloc: Global,
-    seed: u64,
-    scheme: &Scheme,
-    cap: u16,
-    hcap: u16,
-    source: &mut S,
-    sink: &mut K,
-) -> RunEnd
-    requires cap { (1 ≤ cap) × (cap ≤ 4096) }
-    requires hcap { (1 ≤ hcap) × (hcap ≤ 4096) }
-    // The run ends with a cause, and what is written is the text of what was done.
-    ensures ends { Ends (record { defs = scheme.now; caps = record { cap = cap; hcap = hcap } }) result
-        (record { left = S.left source.old; reads = S.faults source.old; written = K.written sink.old; writes = K.faults sink.old })
-        (record { left = S.left source.new; reads = S.faults source.new; written = K.written sink.new; writes = K.faults sink.new }) }
-    ensures flushed { IsFlushed result (K.flushed sink.new) }
-    ensures kept { S.kept source.new ≡ S.kept source.old }
-    // A sound script is done, where no fault is counted; but for want of memory.
-    ensures decided { (text : List ℕ) → S.left source.old ≡ Some text → IsSound (record { defs = scheme.now; caps = record { cap = cap; hcap = hcap } }) text
-        → NoFault (S.faults source.old) (S.faults source.new) (K.faults sink.old) (K.faults sink.new)
-        → (result ≡ RunEnd.Done) ⊎ (result ≡ RunEnd.NoMemory) }
-{
-    let mut engine = Engine::new(alloc);
-    let mut stripes = match Stripes::new(alloc, cap, hcap, seed) {
-        Err(_) => return finish(&mut engine, sink, RunEnd::NoMemory),
-        Ok(stripes) => stripes,
+    // What holds of all lists of a hub, it tells with the number of its stripes.
+    let _ = hub.stripes();
+    let mut engine = match Engine::new(alloc) {
+        Err(_) => return not_begun(alloc, sink),
+        Ok(engine) => engine,
     };
     let mut items = match Items::new(alloc, Mode::File) {
-        Err(_) => return finish(&mut engine, sink, RunEnd::NoMemory),
+        Err(_) => return not_begun(alloc, sink),
         Ok(items) => items,
     };
-    let end = run(
-        alloc,
-        scheme,
-        &mut items,
-        &mut engine,
-        &mut stripes,
-        source,
-        sink,
-    );
+    let end = run(alloc, scheme, &mut items, &mut engine, hub, source, sink);
+    let _ = hub.stripes();
     finish(&mut engine, sink, end)
 }
 
+/// Runs a script on a hub that is made for it, with these sizes. The keys of the collectors are hashed by a seed, on which nothing
+/// that is printed depends.
+pub fn replay_alone<S: Source, K: Sink>(
+    alloc: Global,
+    seed: u64,
+    scheme: &Scheme,
+    config: Config,
+    source: &mut S,
+    sink: &mut K,
+) -> RunEnd
+    // The run ends with a cause, and what is written is the text of what was done, in one legal log of each stripe.
+    ensures ends { (calls : List Made) × Ends (record { defs = scheme.now; stripes = config.stripes }) (own_books config) calls result
+        (record { left = S.left source.old; reads = S.faults source.old; written = K.written sink.old; writes = K.faults sink.old })
+        (record { left = S.left source.new; reads = S.faults source.new; written = K.written sink.new; writes = K.faults sink.new }) }
+    ensures flushed { IsFlushed result (K.flushed sink.new) }
+    ensures kept { S.kept source.new ≡ S.kept source.old }
+    // A sound script is done, where no fault is counted; but for want of memory.
+    ensures decided { (text : List ℕ) → S.left source.old ≡ Some text → IsSound (record { defs = scheme.now; stripes = config.stripes }) (own_books config) text
+        → NoFault (S.faults source.old) (S.faults source.new) (K.faults sink.old) (K.faults sink.new)
+        → (result ≡ RunEnd.Done) ⊎ (result ≡ RunEnd.NoMemory) }
+{
+    match OwnHub::with_seed(alloc, config, seed) {
+        Err(_) => not_begun(alloc, sink),
+        Ok(mut hub) => replay(alloc, scheme, &mut hub, source, sink),
+    }
+}
+
+/// Ends a run that wants memory before its first read.
+fn not_begun<K: Sink>(alloc: Global, sink: &mut K) -> RunEnd
+    ensures { Finishes ends.NoMemory result [] (K.written sink.old) (K.written sink.new) (K.flushed sink.new) (K.faults sink.old) (K.faults sink.new) }
+{
+    let mut nothing = OutBuffer::new(alloc);
+    if !nothing.drain(sink) {
+        return RunEnd::WriteFault;
+    }
+    RunEnd::NoMemory
+}
+
 /// Does what each item asks for, until the run ends.
-fn run<S: Source, K: Sink>(
+fn run<H: Hub, S: Source, K: Sink>(
     alloc: Global,
     scheme: &Scheme,
     items: &mut Items,
     engine: &mut Engine,
-    stripes: &mut Stripes,
+    hub: &mut H,
     source: &mut S,
     sink: &mut K,
 ) -> RunEnd
+    requires alone { H.is_alone hub.old }
+    requires new { StandsForNothing (H.stripes hub.old) (H.ticker hub.old) (H.stream hub.old) (H.history hub.old) }
     requires items { items.old ≡ opening File }
     requires engine { engine.old ≡ record { script = start; held = [] } }
-    requires stripes { Stand (caps_of stripes.old) stripes.old no_logs }
-    ensures ended { IsEnded (record { defs = scheme.now; caps = caps_of stripes.old }) result
+    ensures same { (H.home hub.new ≡ H.home hub.old) × (H.stripes hub.new ≡ H.stripes hub.old) × H.is_alone hub.new }
+    ensures ended { (l : Lists) → AreOf (H.stripes hub.old) (H.ticker hub.old) (H.stream hub.old) (H.history hub.old) l
+        → (m : Lists) × AreOf (H.stripes hub.old) (H.ticker hub.new) (H.stream hub.new) (H.history hub.new) m
+        × IsEnded (record { defs = scheme.now; stripes = H.stripes hub.old }) result
         (record { left = S.left source.old; reads = S.faults source.old; written = K.written sink.old; writes = K.faults sink.old })
-        engine.new.held
+        l m engine.new.held
         (record { left = S.left source.new; reads = S.faults source.new; written = K.written sink.new; writes = K.faults sink.new }) }
     ensures kept { S.kept source.new ≡ S.kept source.old }
 {
+    // What holds of all lists of a hub, it tells with the number of its stripes.
+    let _ = hub.stripes();
     'items: loop {
         if !let_go(items, engine, sink) {
             return RunEnd::WriteFault;
@@ -119,14 +136,14 @@ fn run<S: Source, K: Sink>(
             Turn::Went => {}
             Turn::Came => {
                 let line = items.line();
-                match engine.hear(alloc, scheme, stripes, items.item(), line, sink) {
+                match engine.hear(alloc, scheme, hub, items.item(), line, sink) {
                     None => {}
                     Some(end) => return end,
                 }
             }
             Turn::Ended(text_end) => {
                 let line = items.line();
-                return last(alloc, scheme, engine, stripes, line, text_end, sink);
+                return last(alloc, scheme, engine, hub, line, text_end, sink);
             }
         }
     }
@@ -158,22 +175,27 @@ fn read_on<S: Source>(scheme: &Scheme, items: &mut Items, engine: &Engine, sourc
 }
 
 /// The text ended: `==END` is heard, and any other end is that of the run.
-fn last<K: Sink>(
+fn last<H: Hub, K: Sink>(
     alloc: Global,
     scheme: &Scheme,
     engine: &mut Engine,
-    stripes: &mut Stripes,
+    hub: &mut H,
     line: u64,
     end: TextEnd,
     sink: &mut K,
 ) -> RunEnd
-    requires { size engine.old.script.group < 4096 }
-    ensures { LastBy end line scheme.now result engine.old stripes.old (record { written = K.written sink.old; faults = K.faults sink.old }) engine.new (record { written = K.written sink.new; faults = K.faults sink.new }) }
+    requires alone { H.is_alone hub.old }
+    requires few { size engine.old.script.place.group < 4096 }
+    ensures same { (H.home hub.new ≡ H.home hub.old) × (H.stripes hub.new ≡ H.stripes hub.old) × H.is_alone hub.new }
+    ensures last { (l : Lists) → AreOf (H.stripes hub.old) (H.ticker hub.old) (H.stream hub.old) (H.history hub.old) l
+        → (m : Lists) × AreOf (H.stripes hub.old) (H.ticker hub.new) (H.stream hub.new) (H.history hub.new) m
+        × LastBy (record { defs = scheme.now; stripes = H.stripes hub.old }) end line result engine.old l (record { written = K.written sink.old; faults = K.faults sink.old }) engine.new m (record { written = K.written sink.new; faults = K.faults sink.new }) }
 {
     match end {
-        TextEnd::End => match engine.hear(alloc, scheme, stripes, &Item::End, line, sink) {
+        TextEnd::End => match engine.hear(alloc, scheme, hub, &Item::End, line, sink) {
             Some(end) => end,
-            None => unreachable!(),
+            // No run goes on behind its END.
+            None => RunEnd::Done,
         },
         _ => end.run_end(),
     }

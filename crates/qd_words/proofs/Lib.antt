@@ -2,3 +2,4 @@ pub mod OptionWords
 pub mod RestLaws
 pub mod WordLaws
 mod Rows
+pub mod ScriptWords

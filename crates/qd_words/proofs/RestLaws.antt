@@ -4,7 +4,7 @@ use Rattle.std.specs.Prelude.{Option, Some, None, option_map, option_and_then, o
 use Rattle.std.specs.Cmp.Lexicographic.{pointwise}
 use Rattle.qd_words.specs.declared.ask.Command.{Command}
 use Rattle.qd_words.specs.declared.ask.OptionName.{OptionName}
-use Rattle.qd_words.specs.declared.ask.OptionName.TheVariants.{Scheme, Cap, Hcap}
+use Rattle.qd_words.specs.declared.ask.OptionName.TheVariants.{Scheme, Cap, Hcap, Stripes}
 use Rattle.qd_words.specs.Words.{same_text, is_option, end_of_options, name_in, value_in, Argument, before, cut, cut_option}
 use Rattle.qd_words.specs.Words.Argument.{Named, Positional}
 use Rattle.qd_words.specs.Asking.{Asked, command_of, name_text, name_of, values_of, positional, are_known, at_most_one, asked_for, asked_by, asks}
@@ -22,23 +22,25 @@ same_texts [] (b ∷ y) e = cc
 same_texts (a ∷ x) [] e = cc
 same_texts (a ∷ x) (b ∷ y) e = let f = same_first a b (nat_eq a b) (pointwise nat_eq x y) refl e in let h : a ≡ b = f.0 in let k : x ≡ y = same_texts x y f.1 in cc
 
-named_by : (word : List ℕ) (t u v : Bool) (name : OptionName)
-    → same_text word (name_text Scheme) ≡ t → same_text word (name_text Cap) ≡ u → same_text word (name_text Hcap) ≡ v
-    → cond t (Some Scheme) (cond u (Some Cap) (cond v (Some Hcap) None)) ≡ Some name → word ≡ name_text name
-named_by word true u v name p q r e = let n : name ≡ Scheme = cc in rw n (same_texts word (name_text Scheme) p)
-named_by word false true v name p q r e = let n : name ≡ Cap = cc in rw n (same_texts word (name_text Cap) q)
-named_by word false false true name p q r e = let n : name ≡ Hcap = cc in rw n (same_texts word (name_text Hcap) r)
-named_by word false false false name p q r e = absurd (cc)
+named_by : (word : List ℕ) (t u v w : Bool) (name : OptionName)
+    → same_text word (name_text Scheme) ≡ t → same_text word (name_text Cap) ≡ u → same_text word (name_text Hcap) ≡ v → same_text word (name_text Stripes) ≡ w
+    → cond t (Some Scheme) (cond u (Some Cap) (cond v (Some Hcap) (cond w (Some Stripes) None))) ≡ Some name → word ≡ name_text name
+named_by word true u v w name p q r s e = let n : name ≡ Scheme = cc in rw n (same_texts word (name_text Scheme) p)
+named_by word false true v w name p q r s e = let n : name ≡ Cap = cc in rw n (same_texts word (name_text Cap) q)
+named_by word false false true w name p q r s e = let n : name ≡ Hcap = cc in rw n (same_texts word (name_text Hcap) r)
+named_by word false false false true name p q r s e = let n : name ≡ Stripes = cc in rw n (same_texts word (name_text Stripes) s)
+named_by word false false false false name p q r s e = absurd (cc)
 
 -- a word that names an option is its name
 pub named : (word : List ℕ) (name : OptionName) → name_of word ≡ Some name → word ≡ name_text name
-named word name e = named_by word (same_text word (name_text Scheme)) (same_text word (name_text Cap)) (same_text word (name_text Hcap)) name refl refl refl e
+named word name e = named_by word (same_text word (name_text Scheme)) (same_text word (name_text Cap)) (same_text word (name_text Hcap)) (same_text word (name_text Stripes)) name refl refl refl refl e
 
 -- the name of an option names it
 pub naming : (name : OptionName) → name_of (name_text name) ≡ Some name
 naming Scheme = refl
 naming Cap = refl
 naming Hcap = refl
+naming Stripes = refl
 
 abbrev pub state : ShownValues → Option (List ℕ) → Option OptionName → Bool → Shown
 state values word waiting ended = record { values = values; word = word; waiting = waiting; ended = ended }
@@ -68,7 +70,7 @@ never false asked h = refl
 -- two positional words are one too many
 two_words : (command : Command) (values : OptionName → List (List ℕ)) (x y : List ℕ) (more : List (List ℕ)) → asked_for command values (x ∷ y ∷ more) ≡ None
 two_words command values x y more =
-    nothing_asked _ (at_most_one (values Scheme)) (λ scheme. nothing_asked _ (at_most_one (values Cap)) (λ limit. nothing_asked _ (at_most_one (values Hcap)) (λ owed. refl)))
+    nothing_asked _ (at_most_one (values Scheme)) (λ scheme. nothing_asked _ (at_most_one (values Cap)) (λ limit. nothing_asked _ (at_most_one (values Hcap)) (λ owed. nothing_asked _ (at_most_one (values Stripes)) (λ stripes. refl))))
 
 -- one positional word more
 word_more : (command : Command) (values : ShownValues) (word : Option (List ℕ)) (next : List ℕ) (arguments : List Argument)
@@ -82,12 +84,17 @@ value_added : (command : Command) (values : ShownValues) (word : Option (List �
 value_added command values word Scheme value arguments None e = rw e refl
 value_added command values word Cap value arguments None e = rw e refl
 value_added command values word Hcap value arguments None e = rw e refl
+value_added command values word Stripes value arguments None e = rw e refl
 value_added command values word Scheme value arguments (Some x) e = rw e (never (are_known arguments) _ refl)
 value_added command values word Cap value arguments (Some x) e =
     rw e (never (are_known arguments) _ (nothing_asked _ (at_most_one (option_to_list values.scheme ++ values_of (name_text Scheme) arguments)) (λ scheme. refl)))
 value_added command values word Hcap value arguments (Some x) e =
     rw e (never (are_known arguments) _ (nothing_asked _ (at_most_one (option_to_list values.scheme ++ values_of (name_text Scheme) arguments)) (λ scheme.
     nothing_asked _ (at_most_one (option_to_list values.cap ++ values_of (name_text Cap) arguments)) (λ limit. refl))))
+value_added command values word Stripes value arguments (Some x) e =
+    rw e (never (are_known arguments) _ (nothing_asked _ (at_most_one (option_to_list values.scheme ++ values_of (name_text Scheme) arguments)) (λ scheme.
+    nothing_asked _ (at_most_one (option_to_list values.cap ++ values_of (name_text Cap) arguments)) (λ limit.
+    nothing_asked _ (at_most_one (option_to_list values.hcap ++ values_of (name_text Hcap) arguments)) (λ owed. refl)))))
 
 value_more : (command : Command) (values : ShownValues) (word : Option (List ℕ)) (text value : List ℕ) (name : OptionName) (arguments : List Argument) → name_of text ≡ Some name
     → asked_behind command values word (Named text value ∷ arguments) ≡ option_and_then (λ (v : ShownValues). asked_behind command v word arguments) (with_value values name value)
@@ -104,7 +111,7 @@ only (Some x) = refl
 
 -- no arguments are left
 none_left : (command : Command) (values : ShownValues) (word : Option (List ℕ)) → asked_behind command values word [] ≡ finished command (state values word None false)
-none_left command values word = rw (only values.scheme, only values.cap, only values.hcap, only word) refl
+none_left command values word = rw (only values.scheme, only values.cap, only values.hcap, only values.stripes, only word) refl
 
 -- behind `--`
 ended : (command : Command) (values : ShownValues) (word : Option (List ℕ)) (words : List (List ℕ)) → asked_behind command values word (map Positional words) ≡ option_and_then (finished command) (given_by (state values word None true) words)

@@ -3,7 +3,7 @@ use Rattle.std.proofs.Common.{◌≡◌, ℕ, ◌<◌, Bool, true, false, cond, 
 use Rattle.std.specs.Prelude.{◌==◌, ◌&&◌, nat_eq, nat_lt, Some, None, is_some}
 use Rattle.std.proofs.lemmas.Bool.Decides.{nat_tests}
 use Rattle.qd_words.specs.declared.ask.Command.{Command}
-use Rattle.qd_words.specs.declared.ask.OptionName.TheVariants.{Scheme, Cap, Hcap}
+use Rattle.qd_words.specs.declared.ask.OptionName.TheVariants.{Scheme, Cap, Hcap, Stripes}
 use Rattle.qd_words.specs.Words.{same_text, is_option, end_of_options, name_in, value_in, IsName, Argument, before, cut, arguments}
 use Rattle.qd_words.specs.Words.Argument.{Named, Positional}
 use Rattle.qd_words.specs.Asking.{name_text, name_of, values_of, positional, are_known, asked_by}
@@ -81,4 +81,4 @@ positional_order (Positional w ∷ first) last name value word = ap (λ (t : Lis
 
 pub any_order : (command : Command) (first last : List Argument) (name value word : List ℕ) → asked_by command (first ++ Named name value ∷ Positional word ∷ last) ≡ asked_by command (first ++ Positional word ∷ Named name value ∷ last)
 any_order command first last name value word =
-    rw (known_order first last name value word, values_order (name_text Scheme) first last name value word, values_order (name_text Cap) first last name value word, values_order (name_text Hcap) first last name value word, positional_order first last name value word) refl
+    rw (known_order first last name value word, values_order (name_text Scheme) first last name value word, values_order (name_text Cap) first last name value word, values_order (name_text Hcap) first last name value word, values_order (name_text Stripes) first last name value word, positional_order first last name value word) refl

@@ -1,12 +1,13 @@
 -- What words ask for.
-use Rattle.std.specs.Prelude.{ℕ, ◌≤◌, if◌then◌else◌, ◌&&◌, ◌==◌, nat_le, Bool, true, List, [], ◌∷◌, length, codes, Option, Some, None, option_map, option_and_then, is_some}
+use Rattle.std.specs.Prelude.{ℕ, ◌≤◌, if◌then◌else◌, ◌&&◌, ◌||◌, ◌==◌, nat_le, Bool, true, List, [], ◌∷◌, length, codes, Option, Some, None, option_map, option_and_then, is_some}
 use Rattle.std.specs.Result.{result_ok}
 use Rattle.qd_decimal.specs.Reading.{count_of}
+use Rattle.qd_scheme.specs.Stripes.{IsStripeCount}
 use Rattle.qd_words.specs.declared.ask.Command.{Command}
 use Rattle.qd_words.specs.declared.ask.Command.TheVariants.{Check, Fmt, Replay}
 use Rattle.qd_words.specs.declared.ask.Ask.{Ask}
 use Rattle.qd_words.specs.declared.ask.OptionName.{OptionName}
-use Rattle.qd_words.specs.declared.ask.OptionName.TheVariants.{Scheme, Cap, Hcap}
+use Rattle.qd_words.specs.declared.ask.OptionName.TheVariants.{Scheme, Cap, Hcap, Stripes}
 use Rattle.qd_words.specs.Words.{same_text, Argument, arguments}
 use Rattle.qd_words.specs.Words.Argument.{Named, Positional}
 
@@ -14,13 +15,14 @@ infixl 10 ◌>>=◌
 abbrev pub ◌>>=◌ : {A B : Type 0} → Option A → (A → Option B) → Option B
 o >>= f = option_and_then f o
 
--- a command with its values: the file that it reads, where it does not read standard input, the scheme file, how many items may wait for an agent of a stream, and how many events may be owed to one of a history
+-- a command with its values: the file that it reads, where it does not read standard input, the scheme file, how many items may wait for an agent of a stream, how many events may be owed to one of a history, and how many stripes each collector has
 pub record Asked : Type 0 where
   pub command : Command
   pub file : Option (List ℕ)
   pub scheme : Option (List ℕ)
   pub cap : ℕ
   pub hcap : ℕ
+  pub stripes : ℕ
 
 -- the command that a word names
 abbrev pub command_of : List ℕ → Option Command
@@ -35,12 +37,14 @@ abbrev pub name_text : OptionName → List ℕ
 name_text Scheme = codes "--scheme"
 name_text Cap = codes "--cap"
 name_text Hcap = codes "--hcap"
+name_text Stripes = codes "--stripes"
 
 abbrev pub name_of : List ℕ → Option OptionName
 name_of word =
     if same_text word (codes "--scheme") then Some Scheme else
     if same_text word (codes "--cap") then Some Cap else
     if same_text word (codes "--hcap") then Some Hcap else
+    if same_text word (codes "--stripes") then Some Stripes else
     None
 
 -- the values given for an option, in order
@@ -91,12 +95,28 @@ size_for Replay (Some word) = size_of word
 size_for Check (Some word) = None
 size_for Fmt (Some word) = None
 
+-- a collector has 1, 2, 4, 8 or 16 stripes
+abbrev pub is_stripe_count : ℕ → Bool
+is_stripe_count n = n == 1 || n == 2 || n == 4 || n == 8 || n == 16
+
+-- the number of stripes that a word says
+abbrev pub stripes_of : List ℕ → Option ℕ
+stripes_of word = count_in 16 word >>= λ count. if is_stripe_count count then Some count else None
+
+-- the number of stripes that an option gives a command, 1 where it is not given; `replay` alone takes one
+abbrev pub stripes_for : Command → Option (List ℕ) → Option ℕ
+stripes_for command None = Some 1
+stripes_for Replay (Some word) = stripes_of word
+stripes_for Check (Some word) = None
+stripes_for Fmt (Some word) = None
+
 -- a command with the values of its options and its positional word, where the command takes these values
-abbrev pub with_values : Command → Option (List ℕ) → Option (List ℕ) → Option (List ℕ) → Option (List ℕ) → Option Asked
-with_values command scheme cap hcap word = do
+abbrev pub with_values : Command → Option (List ℕ) → Option (List ℕ) → Option (List ℕ) → Option (List ℕ) → Option (List ℕ) → Option Asked
+with_values command scheme cap hcap stripes word = do
   size ← size_for command cap
   owed ← size_for command hcap
-  Some (record { command = command; file = file_of word; scheme = scheme; cap = size; hcap = owed })
+  count ← stripes_for command stripes
+  Some (record { command = command; file = file_of word; scheme = scheme; cap = size; hcap = owed; stripes = count })
 
 -- what the values of the options and the positional words ask of a command: each stands once at most
 abbrev pub asked_for : Command → (OptionName → List (List ℕ)) → List (List ℕ) → Option Asked
@@ -104,8 +124,9 @@ asked_for command values words = do
   scheme ← at_most_one (values Scheme)
   limit ← at_most_one (values Cap)
   owed ← at_most_one (values Hcap)
+  stripes ← at_most_one (values Stripes)
   word ← at_most_one words
-  with_values command scheme limit owed word
+  with_values command scheme limit owed stripes word
 
 -- what arguments ask of a command
 abbrev pub asked_by : Command → List Argument → Option Asked
@@ -118,8 +139,8 @@ asks (word ∷ words) = option_and_then (λ command. option_and_then (asked_by c
 
 -- a value of the code as what is asked
 abbrev pub asked : Ask → Asked
-asked a = record { command = a.command; file = option_map (λ s. s.now) a.file; scheme = option_map (λ s. s.now) a.scheme; cap = a.cap; hcap = a.hcap }
+asked a = record { command = a.command; file = option_map (λ s. s.now) a.file; scheme = option_map (λ s. s.now) a.scheme; cap = a.cap; hcap = a.hcap; stripes = a.stripes }
 
--- the sizes of what is asked are sizes
+-- the sizes of what is asked are sizes, and its number of stripes is one that a collector may have
 abbrev pub HasSizes : Ask → Type 0
-HasSizes a = IsSize a.cap × IsSize a.hcap
+HasSizes a = IsSize a.cap × IsSize a.hcap × IsStripeCount a.stripes

@@ -2,7 +2,7 @@
 use Rattle.std.specs.Prelude.{ℕ, if◌then◌else◌, Bool, true, false, List, [], ◌∷◌, Option, Some, None, option_map, option_and_then, is_some}
 use Rattle.qd_words.specs.declared.ask.Command.{Command}
 use Rattle.qd_words.specs.declared.ask.OptionName.{OptionName}
-use Rattle.qd_words.specs.declared.ask.OptionName.TheVariants.{Scheme, Cap, Hcap}
+use Rattle.qd_words.specs.declared.ask.OptionName.TheVariants.{Scheme, Cap, Hcap, Stripes}
 use Rattle.qd_words.specs.declared.given.Given.{Given}
 use Rattle.qd_words.specs.declared.values.Values.{Values}
 use Rattle.qd_words.specs.Words.{same_text, is_option, end_of_options, name_in, value_in}
@@ -13,22 +13,25 @@ pub record ShownValues : Type 0 where
   pub scheme : Option (List ℕ)
   pub cap : Option (List ℕ)
   pub hcap : Option (List ℕ)
+  pub stripes : Option (List ℕ)
 
 abbrev pub shown_values : Values → ShownValues
-shown_values v = record { scheme = option_map (λ s. s.now) v.scheme; cap = option_map (λ s. s.now) v.cap; hcap = option_map (λ s. s.now) v.hcap }
+shown_values v = record { scheme = option_map (λ s. s.now) v.scheme; cap = option_map (λ s. s.now) v.cap; hcap = option_map (λ s. s.now) v.hcap; stripes = option_map (λ s. s.now) v.stripes }
 
 abbrev pub no_values : ShownValues
-no_values = record { scheme = None; cap = None; hcap = None }
+no_values = record { scheme = None; cap = None; hcap = None; stripes = None }
 
 abbrev pub value_of : ShownValues → OptionName → Option (List ℕ)
 value_of v Scheme = v.scheme
 value_of v Cap = v.cap
 value_of v Hcap = v.hcap
+value_of v Stripes = v.stripes
 
 abbrev pub with_set : ShownValues → OptionName → List ℕ → ShownValues
 with_set v Scheme value = record v { scheme = Some value }
 with_set v Cap value = record v { cap = Some value }
 with_set v Hcap value = record v { hcap = Some value }
+with_set v Stripes value = record v { stripes = Some value }
 
 -- one value more, where the option has none
 abbrev pub with_value : ShownValues → OptionName → List ℕ → Option ShownValues
@@ -85,7 +88,7 @@ given_by g (word ∷ words) = option_and_then (λ next. given_by next words) (wi
 abbrev pub finished : Command → Shown → Option Asked
 finished command g =
     if is_some g.waiting then None else
-    with_values command g.values.scheme g.values.cap g.values.hcap g.word
+    with_values command g.values.scheme g.values.cap g.values.hcap g.values.stripes g.word
 
 -- what words ask for, one by one: the first names the command
 abbrev pub read_asked : List (List ℕ) → Option Asked

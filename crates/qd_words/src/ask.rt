@@ -21,6 +21,8 @@ pub struct Ask<'a> {
     pub cap: u16,
     /// How many events may be owed to an agent of a history: 1 to 4096.
     pub hcap: u16,
+    /// How many stripes each collector has: 1, 2, 4, 8 or 16.
+    pub stripes: u8,
 }
 
 /// An option.
@@ -29,4 +31,5 @@ pub enum OptionName {
     Scheme,
     Cap,
     Hcap,
+    Stripes,
 }

@@ -112,13 +112,13 @@ fn split_option(word: &str) -> (&str, Option<&str>)
     }
 }
 
-fn is_end(word: &str) -> bool
+pub fn is_end(word: &str) -> bool
     ensures { result ≡ same_text word.now end_of_options }
 {
     word.as_bytes() == b"--".as_slice()
 }
 
-fn is_option(word: &str) -> bool
+pub fn is_option(word: &str) -> bool
     ensures { result ≡ is_option word.now }
 {
     let bytes = word.as_bytes();
@@ -135,6 +135,8 @@ fn name_of(word: &str) -> Option<OptionName>
         Some(OptionName::Cap)
     } else if name == b"--hcap".as_slice() {
         Some(OptionName::Hcap)
+    } else if name == b"--stripes".as_slice() {
+        Some(OptionName::Stripes)
     } else {
         None
     }

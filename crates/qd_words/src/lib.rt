@@ -4,15 +4,19 @@
 //! option; its value stands behind an `=`, or is the next word, which is no option. All other words, and all behind
 //! `--`, are positional. [`ask_of`] reads them, and what they ask for stands in `specs/Asking.antt`.
 //!
-//! Each command takes `--scheme FILE`; `replay` takes `--cap N` and `--hcap N` too, numbers from 1 to 4096.
+//! Each command takes `--scheme FILE`; `replay` takes `--cap N` and `--hcap N` too, numbers from 1 to 4096, and
+//! `--stripes N`, which is 1, 2, 4, 8 or 16. `gen` takes two numbers and no option, and [`script_ask_of`] reads its words
+//! (`specs/Scripts.antt`).
 #![tactic(auto)]
 
 mod ask;
 mod given;
 mod laws;
 mod reading;
+mod script;
 mod values;
 
 pub use ask::{Ask, Command};
 pub use laws::{any_order, value_behind_equals};
 pub use reading::ask_of;
+pub use script::{ScriptAsk, script_ask_of};

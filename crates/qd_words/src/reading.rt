@@ -1,5 +1,6 @@
-ghost use Rattle.std.specs.Prelude.{◌≡◌, ◌≤◌, map, string_bytes, option_map, None, IfSome};
-ghost use Rattle.qd_words.specs.Asking.{asks, asked, command_of, file_of, count_in, size_of, size_for, IsSize, HasSizes};
+ghost use Rattle.std.specs.Prelude.{◌≡◌, ◌≤◌, map, string_bytes, option_map, None, IfSome, true};
+ghost use Rattle.qd_scheme.specs.Stripes.{IsStripeCount};
+ghost use Rattle.qd_words.specs.Asking.{asks, asked, command_of, file_of, count_in, size_of, size_for, is_stripe_count, stripes_of, stripes_for, IsSize, HasSizes};
 ghost use Rattle.qd_words.specs.Given.{shown, nothing, given_by, finished, read_asked};
 
 use crate::ask::{Ask, Command};
@@ -10,6 +11,8 @@ use qd_decimal::read_count;
 const DEFAULT_SIZE: u16 = 1024;
 
 const GREATEST_SIZE: u16 = 4096;
+
+const MOST_STRIPES: u8 = 16;
 
 /// The most bytes of a word that is read as a count, as of a line of text.
 const LONGEST_COUNT: usize = 4096;
@@ -48,12 +51,14 @@ fn asked_by(command: Command, given: Given<'_>) -> Option<Ask<'_>>
     }
     let cap = size_for(command, given.values.cap)?;
     let hcap = size_for(command, given.values.hcap)?;
+    let stripes = stripes_for(command, given.values.stripes)?;
     Some(Ask {
         command,
         file: file_of(given.word),
         scheme: given.values.scheme,
         cap,
         hcap,
+        stripes,
     })
 }
 
@@ -80,8 +85,39 @@ fn size_of(word: &str) -> Option<u16>
     }
 }
 
+/// The number of stripes that an option gives a command.
+fn stripes_for(command: Command, given: Option<&str>) -> Option<u8>
+    ensures stripes { result ≡ stripes_for command (option_map (λ s. s.now) given.entry) }
+    ensures within { IfSome result IsStripeCount }
+{
+    match (command, given) {
+        (_, None) => Some(1),
+        (Command::Replay, Some(word)) => stripes_of(word),
+        (_, Some(_)) => None,
+    }
+}
+
+/// A number of stripes, as digits alone.
+fn stripes_of(word: &str) -> Option<u8>
+    ensures stripes { result ≡ stripes_of word.now }
+    ensures within { IfSome result IsStripeCount }
+{
+    let count = count_of(word, MOST_STRIPES.into())?;
+    if !is_stripe_count(count) {
+        return None;
+    }
+    Some(count as u8)
+}
+
+fn is_stripe_count(count: u64) -> bool
+    ensures test { result ≡ is_stripe_count count }
+    ensures cases { result ≡ true → IsStripeCount count }
+{
+    count == 1 || count == 2 || count == 4 || count == 8 || count == 16
+}
+
 /// A count of at most `most`, as digits alone.
-fn count_of(word: &str, most: u64) -> Option<u64>
+pub fn count_of(word: &str, most: u64) -> Option<u64>
     ensures value { result ≡ count_in most word.now }
     ensures within { IfSome result (λ n. n ≤ most) }
 {

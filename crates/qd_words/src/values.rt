@@ -9,6 +9,7 @@ pub struct Values<'a> {
     pub scheme: Option<&'a str>,
     pub cap: Option<&'a str>,
     pub hcap: Option<&'a str>,
+    pub stripes: Option<&'a str>,
 }
 
 impl<'a> Values<'a> {
@@ -20,6 +21,7 @@ impl<'a> Values<'a> {
             scheme: None,
             cap: None,
             hcap: None,
+            stripes: None,
         }
     }
 
@@ -40,6 +42,7 @@ impl<'a> Values<'a> {
             OptionName::Scheme => self.scheme,
             OptionName::Cap => self.cap,
             OptionName::Hcap => self.hcap,
+            OptionName::Stripes => self.stripes,
         }
     }
 
@@ -57,6 +60,10 @@ impl<'a> Values<'a> {
             },
             OptionName::Hcap => Values {
                 hcap: Some(value),
+                ..self
+            },
+            OptionName::Stripes => Values {
+                stripes: Some(value),
                 ..self
             },
         }

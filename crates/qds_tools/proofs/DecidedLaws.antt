@@ -10,7 +10,6 @@ use Rattle.qd_outside.specs.Causes.{Rose}
 use Rattle.qd_outside.specs.Opening.{FilesState, OpensIn, IsHeld, LeftOf}
 use Rattle.qd_outside.specs.Writing.{Gained}
 use Rattle.qd_replay.specs.Ends.{IsFlushed as ReplayFlushed}
-use Rattle.qd_replay.specs.Settings.{Setting}
 use Rattle.qd_scheme.specs.declared.defs.RecordDef.{RecordDef}
 use Rattle.qd_scheme_file.specs.declared.no_scheme.NoScheme.{NoScheme}
 use Rattle.qd_scheme_file.specs.declared.no_scheme.NoScheme.TheVariants as schemes
@@ -21,7 +20,7 @@ use Rattle.qd_words.specs.declared.ask.Command.{Command}
 use Rattle.qd_words.specs.declared.ask.Command.TheVariants.{Check, Fmt, Replay}
 use Rattle.qds_tools.specs.declared.program_end.ProgramEnd.{ProgramEnd}
 use Rattle.qds_tools.specs.declared.program_end.ProgramEnd.TheVariants.{Usage, Refused, Ran}
-use Rattle.qds_tools.specs.Commands.{setting_of, RunsBy, LeadsTo}
+use Rattle.qds_tools.specs.Commands.{Setting, setting_of, RunsBy, LeadsTo}
 use Rattle.qds_tools.specs.Program.{World, IsReadOn, SchemeComes, RunsOn, Ends, HasText, IsScheme, IsText, NoFault}
 use Rattle.qds_tools.specs.Statuses.{status_of, Reports}
 

@@ -1,2 +1,3 @@
 pub mod DecidedLaws
+pub mod ScriptLaws
 mod Rows

@@ -5,7 +5,6 @@ use Rattle.qd_items.specs.declared.ends.RunEnd.{RunEnd}
 use Rattle.qd_items.specs.declared.ends.RunEnd.TheVariants as runs
 use Rattle.qd_outside.specs.Causes.{Rose}
 use Rattle.qd_outside.specs.Opening.{FilesState, OpensIn}
-use Rattle.qd_replay.specs.Settings.{Setting}
 use Rattle.qd_scheme.specs.Builtin.{builtin_defs}
 use Rattle.qd_scheme.specs.declared.defs.RecordDef.{RecordDef}
 use Rattle.qd_scheme_file.specs.declared.no_scheme.NoScheme.{NoScheme}
@@ -15,7 +14,7 @@ use Rattle.qd_words.specs.Asking.{Asked}
 use Rattle.qd_words.specs.declared.ask.Command.{Command}
 use Rattle.qds_tools.specs.declared.program_end.ProgramEnd.{ProgramEnd}
 use Rattle.qds_tools.specs.declared.program_end.ProgramEnd.TheVariants.{Usage, Refused, Ran}
-use Rattle.qds_tools.specs.Commands.{setting_of, RunsBy}
+use Rattle.qds_tools.specs.Commands.{Setting, setting_of, RunsBy}
 
 -- what is told outside: by the files, of standard input and of standard output
 pub record World : Type 0 where

@@ -9,9 +9,10 @@ ghost use Rattle.qds_tools.specs.Program.{Ends, RunsOn, FileRuns, SchemeComes, S
 
 use crate::program_end::ProgramEnd;
 use qd_check::{check, fmt};
+use qd_hub::Config;
 use qd_items::RunEnd;
 use qd_outside::{FileSource, Files, Sink, Source};
-use qd_replay::replay_seeded;
+use qd_replay::replay_alone;
 use qd_scheme::Scheme;
 use qd_scheme_file::{NoScheme, read_scheme};
 use qd_words::{Ask, Command};
@@ -100,6 +101,17 @@ fn run_file<F: Files, K: Sink>(
     run(alloc, seed, ask, scheme, &mut source, out)
 }
 
+/// The sizes of the hub on which a script runs.
+fn config_of(ask: &Ask<'_>) -> Config
+    requires { HasSizes ask.now }
+    ensures { result ≡ record { stripes = ask.now.stripes; cap = ask.now.cap; hcap = ask.now.hcap } }
+{
+    match Config::of(ask.stripes, ask.cap, ask.hcap) {
+        Some(config) => config,
+        None => unreachable!(),
+    }
+}
+
 /// Runs a command over a source.
 #[tactic(auto, using(crate::proofs::DecidedLaws::flushed_by))]
 fn run<S: Source, K: Sink>(
@@ -119,6 +131,6 @@ fn run<S: Source, K: Sink>(
     match ask.command {
         Command::Check => check(alloc, scheme, source, out),
         Command::Fmt => fmt(alloc, scheme, source, out),
-        Command::Replay => replay_seeded(alloc, seed, scheme, ask.cap, ask.hcap, source, out),
+        Command::Replay => replay_alone(alloc, seed, scheme, config_of(ask), source, out),
     }
 }

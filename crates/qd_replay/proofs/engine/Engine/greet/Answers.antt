@@ -1,9 +1,0 @@
-use Rattle.std.proofs.Common.{refl, ◌∙◌}
-use Rattle.qd_replay.proofs.Halts.{said, said_short, closed_script}
-use Rattle.qd_replay.proofs.engine.Engine.greet.Goals as goal
-
-pub returns-then-not-say : goal.returns-then-not-say
-returns-then-not-say g c = λ s o caps done at. said_short _ _ _ _ _ _ _ _ _ _ _ _ c.if-not-say.ensures.printed at
-
-pub returns : goal.returns
-returns g c = λ s. (c.if-not-say.ensures.script ∙ closed_script _ c.requires, refl, λ o caps done at. said _ _ _ _ _ _ _ _ _ c.if-not-say.ensures.printed at)
