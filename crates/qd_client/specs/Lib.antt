@@ -1,0 +1,5 @@
+pub mod Asking
+pub mod Dumps
+pub mod Posts
+pub mod Reading
+pub mod Rules

@@ -1,0 +1,3 @@
+mod ClosingLaws
+mod ReadingLaws
+mod WritingLaws

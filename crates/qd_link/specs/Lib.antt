@@ -1,0 +1,4 @@
+pub mod Closing
+pub mod LinkIns
+pub mod LinkOuts
+pub mod Waits
