@@ -1,7 +1,7 @@
-//! The tests of the crates' calls, in one crate: a crate that has tests is proved twice, once with them.
+//! The tests of the calls of the crates up to the hub, in one crate: a crate that has tests is proved twice, once with them.
 //!
-//! Here stand calls that take memory, where there is some; the adapters over real files and streams; threads; and the texts of
-//! faults. What a call does with every input is its contract, and what the program does `checks/` tries.
+//! Here stand calls that take memory, where there is some; threads; and what crosses threads. What a call does with every input is
+//! its contract, and what the program does `checks/` tries.
 #![tactic(auto)]
 
 #[cfg(test)]
@@ -9,22 +9,6 @@ mod collectors;
 #[cfg(test)]
 mod gate;
 #[cfg(test)]
-mod hub_asks;
-#[cfg(test)]
-mod hub_callers;
-#[cfg(test)]
-mod hub_distributors;
-#[cfg(test)]
-mod hub_ops;
+mod hub;
 #[cfg(test)]
 mod memory;
-#[cfg(test)]
-mod outside;
-#[cfg(test)]
-mod real;
-#[cfg(test)]
-mod row;
-#[cfg(test)]
-mod runs;
-#[cfg(test)]
-mod texts;

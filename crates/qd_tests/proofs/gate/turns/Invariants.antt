@@ -2,4 +2,4 @@ use Rattle.std.proofs.Common.{◌≡◌}
 use Rattle.qd_tests.proofs.gate.turns.Given as goal
 
 abbrev pub invariant-loop : goal.invariant-loop
-invariant-loop g l = l.pass.home ≡ l.initial.pass.home
+invariant-loop l = l.pass.home ≡ l.initial.pass.home
