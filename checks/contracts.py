@@ -2,7 +2,7 @@
 
 `docs/make_contracts` writes the page; `checks/run` looks whether the page is what the sources say, and the drawings what
 `docs/draw` draws. A call is public where `lib.rt` has it or gives its name, its type or its module on; the functions of a public
-trait stand with the trait, and with a type only where they promise more. A short clause without a name is shown itself. The tests named are those of qd_tests, or of the
+trait stand with the trait, and with a type only where they promise more. A short clause without a name is shown itself. The tests named are those of qd_tests and qds_tests, or of the
 crate, in whose text, or in that of the helpers that they call, the call's name stands, and that of its type."""
 import pathlib
 import re
@@ -23,7 +23,7 @@ TRIED = {
     'qd_hist_feed': 'tables/history.txt random_history.py', 'qd_history': 'tables/history.txt random_history.py', 'qd_words': 'tables/words.txt tables/runs.txt',
     'qd_scheme_file': 'tables/schemes.txt tables/runs.txt', 'qd_items': 'tables/runs.txt hostile.py', 'qd_check': 'tables/runs.txt hostile.py',
     'qd_replay': 'tables/scripts.txt hostile.py', 'qds_tools': 'tables/runs.txt cases', 'qds': 'cases live.py hostile.py'}
-TESTS = 'qd_tests'
+TESTS = ('qd_tests', 'qds_tests')
 SHORT, NAMELESS = 70, 'one without a name'
 TEST = re.compile(r'#\[test\]\s*(?:#\[[^\]]*\]\s*)*(?:pub )?fn (?P<name>\w+)')
 
@@ -79,6 +79,18 @@ def clauses_of(head):
     return found
 
 
+def without_bounds(head):
+    """The head of a block behind its parameters, whose bounds may have angles of their own."""
+    if not head.startswith('<'):
+        return head
+    depth = 0
+    for place, letter in enumerate(head):
+        depth += {'<': 1, '>': -1}.get(letter, 0)
+        if depth == 0:
+            return head[place + 1:].lstrip()
+    return head
+
+
 def owner_at(text, start):
     """The trait or the type around a place, with whether it is a trait, or the impl of one."""
     owner = None
@@ -86,7 +98,7 @@ def owner_at(text, start):
         owner = block
     if owner is None:
         return None
-    head = owner['head']
+    head = without_bounds(f"{owner['generics'] or ''} {owner['head']}".strip())
     if owner['kind'] == 'trait':
         return re.match(r'\w+', head)[0], 'trait', bool(owner['public'])
     if ' for ' in head:
@@ -160,12 +172,12 @@ def wrong_bodies(crate):
 
 def tests_of(crate):
     """The tests of a crate, each with the text that it reaches."""
-    found, tests = bodies(sum(files(crate), []) if crate == TESTS else files(crate)[1])
+    found, tests = bodies(sum(files(crate), []) if crate in TESTS else files(crate)[1])
     return [(test[1], reached(test, found)) for test in tests if test in found]
 
 
 def section(crate):
-    texts = tests_of(crate) + (tests_of(TESTS) if crate != TESTS else [])
+    texts = tests_of(crate) + [it for name in TESTS if name != crate for it in tests_of(name)]
     gate, planted = wrong_bodies(crate)
     lines = [f'## {crate}', '']
     tried = [f'`checks/{pattern}`' for pattern in TRIED.get(crate, '').split() if any((TOP / 'checks').glob(pattern))]
@@ -188,7 +200,7 @@ def page():
     lines = ['# Each public call and its clauses', '',
              'Made by `docs/make_contracts` from the sources; `checks/run` looks whether it is still what they say. What the clauses mean together'
              ' is told in [PROOFS.md](PROOFS.md), the words that they use in [MODEL.md](MODEL.md); a clause itself stands in the file of the call,'
-             ' behind `ensures`. The tests named stand in `qd_tests`: one that names a call shows it at work and proves nothing, and where the contract says all there is none. Behaviour over many cases is tried on the built program, by what stands behind the words "On the program".', '']
+             ' behind `ensures`. The tests named stand in `qd_tests` and `qds_tests`: one that names a call shows it at work and proves nothing, and where the contract says all there is none. Behaviour over many cases is tried on the built program, by what stands behind the words "On the program".', '']
     return '\n'.join(lines + [line for crate in crates() for line in section(crate)]).rstrip('\n') + '\n'
 
 

@@ -124,7 +124,7 @@ def try_scheme(seed):
 
 
 WORDS = ['check', 'fmt', 'replay', 'serve', '', '-', '--', '---', '-h', '--help', '--version', '--scheme', '--scheme=', '--scheme=-', '--schemes=a', '--cap', '--cap=', '--cap=0', '--cap=1',
-         '--cap=4096', '--cap=4097', '--cap=-1', '--cap=1.0', '--cap=00000001', '--cap=' + '9' * 5000, '--hcap', '--hcap=4096', '--hcap=0', '0', '1', '/', '/dev/null', '/proc/self/mem',
+         '--cap=4096', '--cap=4097', '--cap=-1', '--cap=1.0', '--cap=00000001', '--cap=' + '9' * 5000, '--hcap', '--hcap=4096', '--hcap=0', '--stripes', '--stripes=4', '--stripes=3', '0', '1', '/', '/dev/null', '/proc/self/mem',
          'no/such/file', 'x' * 5000, 'caf\u00e9', b'\xff', b'--cap=\xc3', 'a=b', '=', '--=', '--cap==1']
 
 
