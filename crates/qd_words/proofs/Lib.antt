@@ -3,3 +3,5 @@ pub mod RestLaws
 pub mod WordLaws
 mod Rows
 pub mod ScriptWords
+pub mod CutLaws
+mod NetRows

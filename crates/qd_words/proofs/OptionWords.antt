@@ -1,34 +1,34 @@
--- The name and the value in an option's word.
+-- What stands before and behind the first byte of one kind in a word.
 use Rattle.std.proofs.Common.{◌≡◌, ◌≢◌, ℕ, suc, ◌<◌, Bool, true, false, cond, List, [], ◌∷◌, ◌++◌, length, get_or, refl, ap, arith}
 use Rattle.std.specs.Prelude.{◌==◌, Some, None}
 use Rattle.std.proofs.lemmas.Bool.Decides.{nat_tests}
-use Rattle.qd_words.specs.Words.{name_in, value_in}
+use Rattle.qd_words.specs.Words.{before_byte, behind_byte, name_in, value_in}
 
--- a text has no `=`
-abbrev pub HasNone : List ℕ → Type 0
-HasNone text = (i : ℕ) → i < length text → get_or text i 0 ≢ 61
+-- a text has no such byte
+abbrev pub HasNone : ℕ → List ℕ → Type 0
+HasNone c text = (i : ℕ) → i < length text → get_or text i 0 ≢ c
 
-first_other : (b : ℕ) (text : List ℕ) → HasNone (b ∷ text) → (b == 61) ≡ false
-first_other b text h = let ne : b ≢ 61 = h 0 (omega arith) in grind (arith, nat_tests)
+first_other : (c b : ℕ) (text : List ℕ) → HasNone c (b ∷ text) → (b == c) ≡ false
+first_other c b text h = let ne : b ≢ c = h 0 (omega arith) in grind (arith, nat_tests)
 
-rest_other : (b : ℕ) (text : List ℕ) → HasNone (b ∷ text) → HasNone text
-rest_other b text h i l = h (suc i) (omega arith)
+rest_other : (c b : ℕ) (text : List ℕ) → HasNone c (b ∷ text) → HasNone c text
+rest_other c b text h i l = h (suc i) (omega arith)
 
-pub name_in-at : (name value : List ℕ) → HasNone name → name_in (name ++ 61 ∷ value) ≡ name
-name_in-at [] value h = refl
-name_in-at (b ∷ name) value h = let e = first_other b name h in rw e (ap (λ (t : List ℕ). b ∷ t) (name_in-at name value (rest_other b name h)))
+pub before_byte-at : (c : ℕ) (name value : List ℕ) → HasNone c name → before_byte c (name ++ c ∷ value) ≡ name
+before_byte-at c [] value h = let e : (c == c) ≡ true = grind (arith, nat_tests) in rw e refl
+before_byte-at c (b ∷ name) value h = let e = first_other c b name h in rw e (ap (λ (t : List ℕ). b ∷ t) (before_byte-at c name value (rest_other c b name h)))
 
-pub value_in-at : (name value : List ℕ) → HasNone name → value_in (name ++ 61 ∷ value) ≡ Some value
-value_in-at [] value h = refl
-value_in-at (b ∷ name) value h = let e = first_other b name h in rw e (value_in-at name value (rest_other b name h))
+pub behind_byte-at : (c : ℕ) (name value : List ℕ) → HasNone c name → behind_byte c (name ++ c ∷ value) ≡ Some value
+behind_byte-at c [] value h = let e : (c == c) ≡ true = grind (arith, nat_tests) in rw e refl
+behind_byte-at c (b ∷ name) value h = let e = first_other c b name h in rw e (behind_byte-at c name value (rest_other c b name h))
 
-pub name_in-without : (word : List ℕ) → HasNone word → name_in word ≡ word
-name_in-without [] h = refl
-name_in-without (b ∷ word) h = let e = first_other b word h in rw e (ap (λ (t : List ℕ). b ∷ t) (name_in-without word (rest_other b word h)))
+pub before_byte-without : (c : ℕ) (word : List ℕ) → HasNone c word → before_byte c word ≡ word
+before_byte-without c [] h = refl
+before_byte-without c (b ∷ word) h = let e = first_other c b word h in rw e (ap (λ (t : List ℕ). b ∷ t) (before_byte-without c word (rest_other c b word h)))
 
-pub value_in-without : (word : List ℕ) → HasNone word → value_in word ≡ None
-value_in-without [] h = refl
-value_in-without (b ∷ word) h = let e = first_other b word h in rw e (value_in-without word (rest_other b word h))
+pub behind_byte-without : (c : ℕ) (word : List ℕ) → HasNone c word → behind_byte c word ≡ None
+behind_byte-without c [] h = refl
+behind_byte-without c (b ∷ word) h = let e = first_other c b word h in rw e (behind_byte-without c word (rest_other c b word h))
 
 alone_step : (t : Bool) (b : ℕ) (word : List ℕ) → (value_in word ≡ None → name_in word ≡ word) → cond t (Some word) (value_in word) ≡ None → cond t [] (b ∷ name_in word) ≡ b ∷ word
 alone_step true b word k h = absurd (cc)

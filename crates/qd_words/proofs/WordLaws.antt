@@ -1,11 +1,14 @@
 -- The laws of words.
 use Rattle.std.proofs.Common.{◌≡◌, ℕ, ◌<◌, Bool, true, false, cond, List, [], ◌∷◌, ◌++◌, length, refl, sym, ◌∙◌, ap, arith, length-append}
-use Rattle.std.specs.Prelude.{◌==◌, ◌&&◌, nat_eq, nat_lt, Some, None, is_some}
+use Rattle.std.specs.Prelude.{◌==◌, ◌&&◌, nat_eq, nat_lt, Option, Some, None, is_some, codes}
 use Rattle.std.proofs.lemmas.Bool.Decides.{nat_tests}
 use Rattle.qd_words.specs.declared.ask.Command.{Command}
 use Rattle.qd_words.specs.declared.ask.OptionName.TheVariants.{Scheme, Cap, Hcap, Stripes}
 use Rattle.qd_words.specs.Words.{same_text, is_option, end_of_options, name_in, value_in, IsName, Argument, before, cut, arguments}
 use Rattle.qd_words.specs.Words.Argument.{Named, Positional}
+use Rattle.qd_words.specs.declared.net_ask.NetCommand.{NetCommand}
+use Rattle.qd_words.specs.declared.net_ask.NetCommand.TheVariants as commands
+use Rattle.qd_words.specs.NetAsking.{NetAsked, takes, takes_all, command_by, net_asked_by}
 use Rattle.qd_words.specs.Asking.{name_text, name_of, values_of, positional, are_known, asked_by}
 
 value_step : (t : Bool) (b : ℕ) (name value : List ℕ) → cond t (Some name) (value_in name) ≡ None → (value_in name ≡ None → value_in (name ++ 61 ∷ value) ≡ Some value) → cond t (Some (name ++ 61 ∷ value)) (value_in (name ++ 61 ∷ value)) ≡ Some value
@@ -82,3 +85,21 @@ positional_order (Positional w ∷ first) last name value word = ap (λ (t : Lis
 pub any_order : (command : Command) (first last : List Argument) (name value word : List ℕ) → asked_by command (first ++ Named name value ∷ Positional word ∷ last) ≡ asked_by command (first ++ Positional word ∷ Named name value ∷ last)
 any_order command first last name value word =
     rw (known_order first last name value word, values_order (name_text Scheme) first last name value word, values_order (name_text Cap) first last name value word, values_order (name_text Hcap) first last name value word, values_order (name_text Stripes) first last name value word, positional_order first last name value word) refl
+
+takes_order : (command : NetCommand) (first last : List Argument) (name value word : List ℕ) → takes_all command (first ++ Named name value ∷ Positional word ∷ last) ≡ takes_all command (first ++ Positional word ∷ Named name value ∷ last)
+takes_order command [] last name value word = refl
+takes_order command (Named n v ∷ first) last name value word = ap (λ (t : Bool). takes command n && t) (takes_order command first last name value word)
+takes_order command (Positional w ∷ first) last name value word = takes_order command first last name value word
+
+command_order : (command : NetCommand) (first last : List Argument) (name value word : List ℕ) (words : List (List ℕ)) → command_by command (first ++ Named name value ∷ Positional word ∷ last) words ≡ command_by command (first ++ Positional word ∷ Named name value ∷ last) words
+command_order commands.Post first last name value word [] = refl
+command_order commands.Post first last name value word (a ∷ []) = rw (values_order (codes "--scheme") first last name value word) refl
+command_order commands.Post first last name value word (a ∷ b ∷ []) = rw (values_order (codes "--scheme") first last name value word) refl
+command_order commands.Post first last name value word (a ∷ b ∷ c ∷ words) = refl
+command_order commands.Dump first last name value word [] = refl
+command_order commands.Dump first last name value word (a ∷ []) = refl
+command_order commands.Dump first last name value word (a ∷ b ∷ words) = rw (values_order (codes "--scheme") first last name value word, values_order (codes "--count") first last name value word, values_order (codes "--limit") first last name value word) refl
+
+pub any_order_of_a_server : (command : NetCommand) (first last : List Argument) (name value word : List ℕ) → net_asked_by command (first ++ Named name value ∷ Positional word ∷ last) ≡ net_asked_by command (first ++ Positional word ∷ Named name value ∷ last)
+any_order_of_a_server command first last name value word =
+    rw (takes_order command first last name value word, positional_order first last name value word) (ap (λ (asked : Option NetAsked). cond (takes_all command (first ++ Positional word ∷ Named name value ∷ last)) asked None) (command_order command first last name value word (positional (first ++ Positional word ∷ Named name value ∷ last))))

@@ -18,15 +18,22 @@ is_option word = has_dash word && nat_lt 1 (length word)
 abbrev pub end_of_options : List ℕ
 end_of_options = 45 ∷ 45 ∷ []
 
--- what stands before the first `=` of a word
-abbrev pub name_in : List ℕ → List ℕ
-name_in [] = []
-name_in (b ∷ word) = if b == 61 then [] else b ∷ name_in word
+-- what stands before the first such byte of a word
+abbrev pub before_byte : ℕ → List ℕ → List ℕ
+before_byte c [] = []
+before_byte c (b ∷ word) = if b == c then [] else b ∷ before_byte c word
 
--- what stands behind the first `=` of a word
+-- what stands behind the first such byte of a word
+abbrev pub behind_byte : ℕ → List ℕ → Option (List ℕ)
+behind_byte c [] = None
+behind_byte c (b ∷ word) = if b == c then Some word else behind_byte c word
+
+-- the name of an option, before the first `=` of its word, and its value behind it
+abbrev pub name_in : List ℕ → List ℕ
+name_in word = before_byte 61 word
+
 abbrev pub value_in : List ℕ → Option (List ℕ)
-value_in [] = None
-value_in (b ∷ word) = if b == 61 then Some word else value_in word
+value_in word = behind_byte 61 word
 
 -- a word is the name of an option alone: it is not `--`, and has no `=`
 pub record IsName (word : List ℕ) : Type 0 where

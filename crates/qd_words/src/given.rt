@@ -102,7 +102,7 @@ impl<'a> Given<'a> {
 }
 
 /// The name of an option's word, and the value that it has.
-fn split_option(word: &str) -> (&str, Option<&str>)
+pub fn split_option(word: &str) -> (&str, Option<&str>)
     ensures name { result.0.now ≡ name_in word.now }
     ensures value { option_map (λ s. s.now) result.1 ≡ value_in word.now }
 {

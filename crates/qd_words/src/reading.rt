@@ -153,7 +153,7 @@ fn command_of(word: &str) -> Option<Command>
     }
 }
 
-fn file_of(word: Option<&str>) -> Option<&str>
+pub fn file_of(word: Option<&str>) -> Option<&str>
     ensures { option_map (λ s. s.now) result ≡ file_of (option_map (λ s. s.now) word.entry) }
 {
     match word {
