@@ -29,7 +29,7 @@ cause_since ends.TooMuch defs side q rest now later l m s t u e c = rw (← e) c
 cause_since ends.ReadFault defs side q rest now later l m s t u e c = rw (← e) c
 cause_since (ends.Refused line limit) defs side q rest now later l m s t u e c = c
 cause_since ends.Spent defs side q rest now later l m s t u e c = c
-cause_since ends.NoMemory defs side q rest now later l m s t u e c = rw (← e) c
+cause_since ends.NoMemory defs side q rest now later l m s t u e c = (c.0, c.1 ∙ e)
 
 pub reads_on : (defs : List RecordDef) (n : ℕ) (k k' : InKept) (turn : InTurn) (l m o : Lists) (s t u : Sourced) (r : IsReading defs n k l m s t)
     → InSteps defs n s.left k turn k' r.past r.made m o t u → ReadsOn defs n k.side (end_in turn) k' l o s u
@@ -84,7 +84,7 @@ reads_nothing defs n side l s g = record {
   one = inl refl;
   grew = g;
   last = g;
-  cause = refl;
+  cause = (inl refl, refl);
 }
 
 pub read_as : (defs : List RecordDef) (n : ℕ) (a b : Side) (end : InEnd) (l m : Lists) (s t : Sourced) → a ≡ b → IsReadOut defs n a end l m s t → IsReadOut defs n b end l m s t

@@ -1,3 +1,4 @@
 mod Beginnings
+mod Ending
 mod ReadOns
 mod Stepping

@@ -1,11 +1,9 @@
 -- An engine reads on.
-use Rattle.std.proofs.Common.{ℕ, ◌≡◌, ◌+◌, ◌<◌, ◌≤◌, ◌⊎◌, inl, inr, Bool, true, false, nat_eq, Option, Some, None, List, [], ◌∷◌, ◌++◌, length, map, refl, sym, ap, ◌∙◌, subst, arith, length-append, cond}
+use Rattle.std.proofs.Common.{ℕ, ◌≡◌, ◌+◌, ◌<◌, ◌⊎◌, inl, inr, Bool, true, false, Option, Some, None, List, [], ◌∷◌, ◌++◌, length, map, refl, sym, ap, ◌∙◌, subst, arith}
 use Rattle.std.specs.Prelude.{Result, Ok, Err, is_ok, is_err}
 use Rattle.std.proofs.lemmas.List.{append-nil}
-use Rattle.std.proofs.lemmas.Bool.{eqb-false}
 use Rattle.qd_grammar.specs.declared.item.Item.{Item}
 use Rattle.qd_grammar.specs.declared.item.Item.TheVariants as items
-use Rattle.qd_grammar.specs.declared.item.Message.{Message}
 use Rattle.qd_grammar.specs.declared.item.Mode.{Mode}
 use Rattle.qd_items.specs.declared.ends.TextEnd.{TextEnd}
 use Rattle.qd_items.specs.declared.ends.TextEnd.TheVariants as texts
@@ -17,20 +15,10 @@ use Rattle.qd_items.specs.Steps as items_steps
 use Rattle.qd_items.specs.Steps.{Steps, WillRead}
 use Rattle.qd_items.proofs.StepLaws.{none_yet, went_on, same_faults, comes_next, hungry_reads}
 use Rattle.qd_scheme.specs.declared.defs.RecordDef.{RecordDef}
-use Rattle.qd_scheme.specs.declared.key.Event.{Event}
-use Rattle.qd_scheme.specs.declared.key.Key.{Key}
-use Rattle.qd_scheme.specs.declared.key.Record.{Record}
-use Rattle.qd_stream.specs.declared.item.StreamItem.{StreamItem}
-use Rattle.qd_stream.specs.declared.item.StreamItem.TheVariants as stream_items
-use Rattle.qd_sub.specs.declared.sub.Sub.{Sub}
 use Rattle.qd_path.specs.declared.call.Asked.{Asked}
-use Rattle.qd_path.specs.declared.kind.Kind.{Kind}
-use Rattle.qd_path.specs.declared.kind.Kind.TheVariants.{Body, Description, Control}
-use Rattle.qd_path.specs.Calls.{Place, mode_of, agent_of, place_of, calls, calls_with, calls_of_items, after, after_kind, joined_by}
-use Rattle.qd_path.specs.Groups.{Group, size, no_group, with_sub, with_key, with_record, with_item, with_event, plain_sub, group_with, is_full, is_foreign, is_adding, is_streaming, kind_of}
+use Rattle.qd_path.specs.Calls.{Place, mode_of, agent_of, place_of, calls, calls_with, calls_of_items, after}
 use Rattle.qd_path.specs.Lists.{Lists}
 use Rattle.qd_path.specs.Made.{Made, asked_in}
-use Rattle.qd_calls.proofs.Sizes.{after_few}
 use Rattle.qd_session.specs.declared.ends.InEnd.TheVariants as ends
 use Rattle.qd_session.specs.declared.ends.InTurn.TheVariants as turns
 use Rattle.qd_session.specs.Ins.{InKept, InStands, HasRead, Sourced, ReadOn, ReadOut, InCause, IsOfRead, in_end}
@@ -121,7 +109,7 @@ module _ (defs : List RecordDef) (n : ℕ) (from : Option (List ℕ)) (k : InKep
         bytes = c.1.stands.bytes;
         took = c.1.took;
         asked = asked_more new.lines item c.0.lines these;
-        cause = λ l. c.5;
+        cause = λ l. (inl refl, c.5);
       }
 
   ends_so : (end : TextEnd) → Steps defs k.items (Some (nexts.Ended end)) new s.left t.left s.faults t.faults → EndsAt (mode_of k.side) defs from p end new.lines t.left s.faults t.faults
@@ -175,7 +163,7 @@ module _ (defs : List RecordDef) (n : ℕ) (from : Option (List ℕ)) (k : InKep
         bytes = e.2.bytes;
         took = e.2.took;
         asked = asked_more (length e.0.lines) items.End e.0.lines e.4;
-        cause = λ l. e.2.cause.1;
+        cause = λ l. (inl refl, e.2.cause.1);
       }
 
   ended_with : (end : TextEnd) → EndsAt (mode_of k.side) defs from p end new.lines t.left s.faults t.faults → ((line : ℕ) (before : List Numbered) → last_items end line before ≡ before)
@@ -199,7 +187,7 @@ module _ (defs : List RecordDef) (n : ℕ) (from : Option (List ℕ)) (k : InKep
   read_out (texts.LineTooLong line) early steps = ended_with (texts.LineTooLong line) (ends_so (texts.LineTooLong line) steps) (λ l b. refl) (λ e l. (refl, refl, e.2.cause))
   read_out texts.TooMuch early steps = ended_with texts.TooMuch (ends_so texts.TooMuch steps) (λ l b. refl) (λ e l. (refl, refl, e.2.cause))
   read_out texts.ReadFault early steps = ended_with texts.ReadFault (ends_so texts.ReadFault steps) (λ l b. refl) (λ e l. (refl, refl, e.2.cause))
-  read_out texts.NoMemory early steps = ended_with texts.NoMemory (ends_so texts.NoMemory steps) (λ l b. refl) (λ e l. e.2.cause.2)
+  read_out texts.NoMemory early steps = ended_with texts.NoMemory (ends_so texts.NoMemory steps) (λ l b. refl) (λ e l. (inl refl, e.2.cause.2))
 
 -- a result that is no error
 pub no_error : {A E : Type 0} (r : Result A E) (b : Bool) → b ≡ is_err r → b ≡ false → is_ok r ≡ true

@@ -6,7 +6,7 @@ use Rattle.qd_outside.specs.Reading.{Took}
 use Rattle.qd_scheme.specs.declared.defs.RecordDef.{RecordDef}
 use Rattle.qd_path.specs.declared.call.Asked.{Asked}
 use Rattle.qd_path.specs.declared.side.Side.{Side}
-use Rattle.qd_path.specs.Lists.{Lists, AreSound, GrewBy}
+use Rattle.qd_path.specs.Lists.{Lists, AreSound}
 use Rattle.qd_path.specs.Made.{Made, asked_in, AreDone, IsDone}
 use Rattle.qd_session.specs.declared.ends.InEnd.{InEnd}
 use Rattle.qd_session.specs.declared.ends.InEnd.TheVariants as ends
@@ -135,7 +135,7 @@ module _ (defs : List RecordDef) (n : ℕ) (from : Option (List ℕ)) (k : InKep
         cause = inr (a, due', refl, due, spent);
         ended = refl;
       }
-  call_steps (turns.Ended ends.NoMemory) d = over ends.NoMemory _ d (λ rest. refl)
+  call_steps (turns.Ended ends.NoMemory) d = over ends.NoMemory _ d (λ rest. (inr (d.call, refl, d.told), refl))
   call_steps (turns.Ended ends.CutOff) d = absurd d
   call_steps (turns.Ended (ends.Bad bad)) d = absurd d
   call_steps (turns.Ended (ends.LineTooLong line)) d = absurd d

@@ -20,7 +20,7 @@ use Rattle.qd_session.specs.declared.ends.InEnd.{InEnd}
 use Rattle.qd_session.specs.declared.ends.InEnd.TheVariants as ends
 use Rattle.qd_session.specs.declared.ends.InTurn.{InTurn}
 use Rattle.qd_session.specs.declared.ends.InTurn.TheVariants as turns
-use Rattle.qd_calls.specs.Dues.{IsDue, TellsLimit, TellsSpent, collector_of}
+use Rattle.qd_calls.specs.Dues.{IsDue, TellsLimit, TellsSpent, TellsWant, collector_of}
 
 -- what an engine keeps: its side; what it reads; where the text stands; the calls that are due; whether END was judged while
 -- calls are due; the end that it came to
@@ -117,7 +117,7 @@ InCause ends.ReadFault defs side q rest now later l m s t = (now ≡ []) × (lat
 InCause (ends.Refused line limit) defs side q rest now later l m s t = (x : Made) × (now ≡ x ∷ []) × TellsLimit limit x × (line ≡ length q.lines)
 InCause ends.Spent defs side q rest now later l m s t =
     ((x : Made) × (now ≡ x ∷ []) × TellsSpent x) ⊎ ((a : Asked) × (more : List Asked) × (now ≡ []) × (later ≡ a ∷ more) × IsSpentAt (collector_of a.call) a.stripe l m)
-InCause ends.NoMemory defs side q rest now later l m s t = t.faults ≡ s.faults
+InCause ends.NoMemory defs side q rest now later l m s t = ((now ≡ []) ⊎ ((x : Made) × (now ≡ x ∷ []) × TellsWant x)) × (t.faults ≡ s.faults)
 
 -- a step that ended the engine: the calls made are a prefix of those that the lines ask for, each of them granted, but for the last one
 pub record InEnded (defs : List RecordDef) (n : ℕ) (from : Option (List ℕ)) (side : Side) (end : InEnd) (k' : InKept) (made : List Made) (l m : Lists) (s t : Sourced) : Type 0 where
@@ -190,7 +190,7 @@ MakesNext n due due' closing line (turns.Ended (ends.Refused number limit)) l m 
 MakesNext n due due' closing line (turns.Ended ends.Spent) l m =
     MadeNext n due due' TellsSpent l m
     ⊎ ((a : Asked) × (due ≡ a ∷ due') × GrewBy n [] l m × IsSpentAt (collector_of a.call) a.stripe l m)
-MakesNext n due due' closing line (turns.Ended ends.NoMemory) l m = MadeNext n due due' (λ x. Unit {0}) l m
+MakesNext n due due' closing line (turns.Ended ends.NoMemory) l m = MadeNext n due due' TellsWant l m
 MakesNext n due due' closing line (turns.Ended end) l m = ⊥
 
 -- the text was read on: no call was made

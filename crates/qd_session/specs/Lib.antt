@@ -1,1 +1,2 @@
 pub mod Ins
+pub mod Laws
