@@ -74,6 +74,10 @@ impl<K: Sink + Drop> Sink for Counted<K> {
 
     ghost faults = { λ s. s.faults };
 
+    ghost Kept = { K.Sink.Kept };
+
+    ghost kept = { λ s. K.Sink.kept s.inner };
+
     fn write(&mut self, piece: &[u8]) -> Write {
         let answer = self.inner.write(piece);
         if let Write::Failed = answer {

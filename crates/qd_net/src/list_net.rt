@@ -104,6 +104,10 @@ impl Sink for ListOut {
 
     ghost faults = { λ s. ⟦<Counted<ListSink> as Sink>⟧.faults s.sink };
 
+    ghost Kept = { Unit {0} };
+
+    ghost kept = { λ _. tt };
+
     fn write(&mut self, piece: &[u8]) -> Write {
         self.sink.write(piece)
     }

@@ -146,6 +146,10 @@ impl Sink for RealOut {
 
     ghost faults = { λ s. ⟦<Counted<Writing<Wire>> as Sink>⟧.faults s.sink };
 
+    ghost Kept = { Unit {0} };
+
+    ghost kept = { λ _. tt };
+
     fn write(&mut self, piece: &[u8]) -> Write {
         let answer = self.sink.write(piece);
         if let Write::Wrote(n) = answer {

@@ -8,6 +8,7 @@
 //! ([`Reading`], [`Writing`], [`RealFiles`]). [`OutBuffer`] writes bytes in large pieces.
 #![tactic(auto)]
 
+mod file_sink;
 mod file_source;
 mod files;
 mod list_files;
@@ -20,6 +21,7 @@ mod retrying;
 mod sink;
 mod source;
 
+pub use file_sink::FileSink;
 pub use file_source::FileSource;
 pub use files::{Files, SoundFiles};
 pub use list_files::{HeldFile, ListFiles, OpenCall};

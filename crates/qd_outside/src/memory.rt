@@ -153,6 +153,10 @@ impl Sink for ListSink {
 
     ghost faults = { λ s. s.faults };
 
+    ghost Kept = { Unit {0} };
+
+    ghost kept = { λ _. tt };
+
     // It fails where the plan says so, and else only where there is no room for the piece.
     fn write(&mut self, piece: &[u8]) -> Write
         requires { 0 < length piece.now }
@@ -210,6 +214,10 @@ impl Sink for SoundSink {
     ghost flushed = { λ s. s.flushed };
 
     ghost faults = { λ s. 0 };
+
+    ghost Kept = { Unit {0} };
+
+    ghost kept = { λ _. tt };
 
     fn write(&mut self, piece: &[u8]) -> Write {
         self.flushed = false;

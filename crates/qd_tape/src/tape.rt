@@ -66,6 +66,7 @@ impl TapeWriter {
     /// flushes it.
     pub fn item<K: Sink>(&mut self, scheme: &Scheme, ms: u64, item: &Item, sink: &mut K) -> Wrote
         requires sound { self.old.failed ≡ false }
+        ensures kept { K.kept sink.new ≡ K.kept sink.old }
         ensures writes { Tapes result (tape_text scheme.now self.old.last ms item.now) (K.written sink.old) (K.written sink.new) (K.faults sink.old) (K.faults sink.new) }
         ensures tape { self.new ≡ tape_after result ms item.now self.old }
     {
@@ -89,6 +90,7 @@ impl TapeWriter {
         sink: &mut K,
     ) -> bool
         requires sound { self.old.failed ≡ false }
+        ensures kept { K.kept sink.new ≡ K.kept sink.old }
         ensures prints { Prints result (tape_text scheme.now self.old.last ms item.now) out.old out.new (K.written sink.old) (K.written sink.new) (K.faults sink.old) (K.faults sink.new) }
         ensures tape { self.new ≡ tape_after (if result then Done else WriteFault) ms item.now self.old }
     {

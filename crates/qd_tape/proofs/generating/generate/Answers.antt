@@ -14,7 +14,7 @@ pub loop-script-preserved : goal.loop-script-preserved
 loop-script-preserved g c = printing_more _ c.loop-script.script c.next_block.new.self _ _ _ _ _ _ _ _ _ c.loop-script.invariant c.loop-script-test.ensures.lines (rw c.bytes.ensures at c.if-not-print.ensures.prints)
 
 pub returns-then-not-drain : goal.returns-then-not-drain
-returns-then-not-drain g c = printing_cut _ c.loop-script.script _ [] _ _ _ true _ _ _ c.loop-script.invariant (c.loop-script-test.ensures.over refl) c.if-not-drain.ensures
+returns-then-not-drain g c = printing_cut _ c.loop-script.script _ [] _ _ _ true _ _ _ c.loop-script.invariant (c.loop-script-test.ensures.over refl) c.if-not-drain.ensures.drains
 
 pub returns : goal.returns
-returns g c = printing_done _ c.loop-script.script _ _ _ _ _ _ _ _ _ c.loop-script.invariant (c.loop-script-test.ensures.over refl) c.if-not-drain.ensures
+returns g c = printing_done _ c.loop-script.script _ _ _ _ _ _ _ _ _ c.loop-script.invariant (c.loop-script-test.ensures.over refl) c.if-not-drain.ensures.drains
