@@ -3,3 +3,4 @@ mod Asking
 mod Cuts
 mod Heads
 mod Spelled
+mod Together

@@ -1,5 +1,5 @@
 -- What holds of the calls of every text.
-use Rattle.std.specs.Prelude.{ℕ, ◌≡◌, ◌<◌, ◌≤◌, ◌^◌, nat_eq, false, Some, Ok, List, ◌++◌, length, filter, All}
+use Rattle.std.specs.Prelude.{ℕ, ◌≡◌, ◌<◌, ◌≤◌, ◌^◌, nat_eq, false, Some, Ok, List, [], ◌∷◌, ◌++◌, length, filter, All}
 use mathlib.Core.List.{IsPrefix}
 use Rattle.qd_buffer.specs.Filled.{Filled}
 use Rattle.qd_buffer.specs.Splitting.{of_stripe}
@@ -18,7 +18,7 @@ use Rattle.qd_path.specs.declared.side.Side.{Side}
 use Rattle.qd_path.specs.declared.side.Side.TheVariants.{Up}
 use Rattle.qd_path.specs.Calls.{AskFor, asks, asks_all, calls, mode_of, place_of}
 use Rattle.qd_path.specs.Groups.{is_foreign}
-use Rattle.qd_path.specs.Lists.{Lists, GrewBy}
+use Rattle.qd_path.specs.Lists.{Lists, GrewBy, at_stripe}
 use Rattle.qd_path.specs.Made.{Made}
 
 -- an item that a line spells behind others is of the current message: it is not foreign to the group that is open there
@@ -51,6 +51,17 @@ of_calls i asked = filter (λ a. nat_eq a.stripe i) asked
 -- items that are cut by stripe ask each stripe once at most, with the items of its keys, in order
 abbrev pub CutsByStripe : {X : Type 0} → (X → Key) → Type 0
 CutsByStripe {X} key = (call : Filled X → Call) (n i : ℕ) (items : List X) → i < n → of_calls i (asks_all key call n items) ≡ asks call i (of_stripe key n i items)
+
+-- parts, put together again, are these items: each time the item that comes next stands first in one part, and behind the last one
+-- nothing is left
+abbrev pub AreTogether : {X : Type 0} → ℕ → (ℕ → List X) → List X → Type 0
+AreTogether {X} n parts [] = (i : ℕ) → i < n → parts i ≡ []
+AreTogether {X} n parts (x ∷ xs) = (i : ℕ) × (rest : List X) × (i < n) × (parts i ≡ x ∷ rest) × AreTogether n (at_stripe i rest parts) xs
+
+-- what the stripes are asked with for a list of items, put together again, is this list
+abbrev pub ComesTogether : {X : Type 0} → (X → Key) → Type 0
+ComesTogether {X} key = (call : Filled X → Call) (n : ℕ) (items : List X) → 0 < n
+    → (parts : ℕ → List X) × ((i : ℕ) → i < n → of_calls i (asks_all key call n items) ≡ asks call i (parts i)) × AreTogether n parts items
 
 -- lists that grew by some calls, and then by others, grew by them all
 abbrev pub GrowsOn : Type 0

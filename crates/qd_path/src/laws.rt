@@ -1,6 +1,6 @@
 //! The laws of calls, as contracts of functions that do nothing.
 
-ghost use Rattle.qd_path.specs.Laws.{AllPuts, AsksFirst, AsksForOne, AsksForSome, CutsByStripe, GrowsOn, NoneForeign};
+ghost use Rattle.qd_path.specs.Laws.{AllPuts, AsksFirst, AsksForOne, AsksForSome, ComesTogether, CutsByStripe, GrowsOn, NoneForeign};
 
 use qd_scheme::Keyed;
 
@@ -32,6 +32,11 @@ pub fn all_puts()
 /// Each stripe is asked once at most for a group, with the items of its keys, in the order of the text.
 pub fn cuts_by_stripe<T: Keyed>()
     ensures { CutsByStripe T.key_of }
+{}
+
+/// What the stripes are asked with for a group, put together again, is the items of the group, in order.
+pub fn comes_together<T: Keyed>()
+    ensures { ComesTogether T.key_of }
 {}
 
 /// What the lists gain in several runs of calls, one after the other, is what they gain by all these calls.

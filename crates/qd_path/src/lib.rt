@@ -13,6 +13,7 @@ mod side;
 pub use call::{Asked, Call};
 pub use kind::Kind;
 pub use laws::{
-    all_puts, asks_first, asks_for_one, asks_for_some, cuts_by_stripe, grows_on, none_foreign,
+    all_puts, asks_first, asks_for_one, asks_for_some, comes_together, cuts_by_stripe, grows_on,
+    none_foreign,
 };
 pub use side::Side;
