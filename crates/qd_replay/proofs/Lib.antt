@@ -6,3 +6,4 @@ pub mod Runs
 pub mod DecidingLaws
 pub mod Legality
 mod Alone
+mod Rows

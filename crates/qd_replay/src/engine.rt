@@ -1,6 +1,7 @@
 //! What a script's items ask for is done.
 ghost use Rattle.std.specs.Prelude.{◌≡◌, ◌<◌, ◌≤◌, [], true, false, IfOk};
 ghost use Rattle.qd_outside.specs.Buffering.{Prints, Drains};
+ghost use Rattle.qd_grammar.specs.declared.item.Item.TheVariants.{Protocol, End};
 ghost use Rattle.qd_path.specs.Groups.{size};
 ghost use Rattle.qd_path.specs.Lists.{Lists, AreOf};
 ghost use Rattle.qd_path.specs.Texts.{line_of};
@@ -71,6 +72,15 @@ fn agent_of(n: u8) -> AgentNo
     match AgentNo::of(n) {
         Some(agent) => agent,
         None => unreachable!(),
+    }
+}
+
+/// Lets the calls go that are left of those that were due; mostly there are none.
+fn clear_due(due: &mut Vec<Asked>)
+    ensures { due.new.items ≡ [] }
+{
+    if !due.is_empty() {
+        due.clear();
     }
 }
 
@@ -146,7 +156,7 @@ impl Engine {
             → (m : Lists) × AreOf (H.stripes hub.old) (H.ticker hub.new) (H.stream hub.new) (H.history hub.new) m
             × Calls (H.stripes hub.old) item.now result self.old.script self.new.script l m }
     {
-        self.due.clear();
+        clear_due(&mut self.due);
         let heard = self
             .reading
             .hear(alloc, hub.stripes(), self.link, item, &mut self.due);
@@ -156,12 +166,20 @@ impl Engine {
         make_all(hub, &mut self.due)
     }
 
-    /// Prints the canonical line of an item.
-    fn say<K: Sink>(&mut self, scheme: &Scheme, item: &Item, sink: &mut K) -> bool
-        ensures printed { Prints result (line_of scheme.now item.now) self.old.held self.new.held (K.written sink.old) (K.written sink.new) (K.faults sink.old) (K.faults sink.new) }
+    /// Prints the first line of a text.
+    fn greet<K: Sink>(&mut self, scheme: &Scheme, sink: &mut K) -> bool
+        ensures printed { Prints result (line_of scheme.now Protocol) self.old.held self.new.held (K.written sink.old) (K.written sink.new) (K.faults sink.old) (K.faults sink.new) }
         ensures script { self.new.script ≡ self.old.script }
     {
-        self.printing.say(scheme, item, sink)
+        self.printing.say(scheme, &Item::Protocol, sink)
+    }
+
+    /// Prints the last line of a text.
+    fn close<K: Sink>(&mut self, scheme: &Scheme, sink: &mut K) -> bool
+        ensures printed { Prints result (line_of scheme.now End) self.old.held self.new.held (K.written sink.old) (K.written sink.new) (K.faults sink.old) (K.faults sink.new) }
+        ensures script { self.new.script ≡ self.old.script }
+    {
+        self.printing.say(scheme, &Item::End, sink)
     }
 
     /// A TAKE.
@@ -231,13 +249,13 @@ impl Engine {
     {
         match item {
             Item::Protocol => {
-                if !self.say(scheme, &Item::Protocol, sink) {
+                if !self.greet(scheme, sink) {
                     return Some(RunEnd::WriteFault);
                 }
                 None
             }
             Item::End => {
-                if !self.say(scheme, &Item::End, sink) {
+                if !self.close(scheme, sink) {
                     return Some(RunEnd::WriteFault);
                 }
                 Some(RunEnd::Done)

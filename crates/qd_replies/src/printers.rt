@@ -1,8 +1,11 @@
 //! How each kind of what a stripe gives is printed.
 
+ghost use Rattle.std.specs.Prelude.{◌≡◌};
+ghost use Rattle.qd_grammar.specs.declared.item.Item.TheVariants.{Rec, Ev};
+
 use qd_grammar::{Item, Message};
 use qd_history::HistItem;
-use qd_scheme::Record;
+use qd_scheme::{Event, Record};
 use qd_stream::StreamItem;
 use qd_sub::{Sub, Want};
 
@@ -18,8 +21,29 @@ pub trait Printer {
     fn message(x: &Self::Given) -> Message
         ensures { result ≡ (shown x.now).message };
 
-    fn item(x: &Self::Given) -> Item
-        ensures { result ≡ (shown x.now).item };
+    /// Its item, in place of another one.
+    fn put(x: &Self::Given, out: &mut Item)
+        ensures { out.new ≡ (shown x.now).item };
+}
+
+/// A record in place of another item: most follow one, and none of its large values is handed on.
+fn put_record(r: &Record, out: &mut Item)
+    ensures { out.new ≡ Rec r.now }
+{
+    match out {
+        Item::Rec(last) => *last = *r,
+        _ => *out = Item::Rec(*r),
+    }
+}
+
+/// An event in place of another item.
+fn put_event(e: &Event, out: &mut Item)
+    ensures { out.new ≡ Ev e.now }
+{
+    match out {
+        Item::Ev(last) => *last = *e,
+        _ => *out = Item::Ev(*e),
+    }
 }
 
 pub struct Records {}
@@ -35,8 +59,8 @@ impl Printer for Records {
         Message::TickerData
     }
 
-    fn item(x: &Record) -> Item {
-        Item::Rec(*x)
+    fn put(x: &Record, out: &mut Item) {
+        put_record(x, out);
     }
 }
 
@@ -56,10 +80,10 @@ impl Printer for Items {
         }
     }
 
-    fn item(x: &StreamItem) -> Item {
+    fn put(x: &StreamItem, out: &mut Item) {
         match x {
-            StreamItem::Rec(record) => Item::Rec(*record),
-            StreamItem::Lost(key, count) => Item::Lost(*key, *count),
+            StreamItem::Rec(record) => put_record(record, out),
+            StreamItem::Lost(key, count) => *out = Item::Lost(*key, *count),
         }
     }
 }
@@ -77,8 +101,8 @@ impl Printer for Events {
         Message::HistoryData
     }
 
-    fn item(x: &HistItem) -> Item {
-        Item::Ev(x.event)
+    fn put(x: &HistItem, out: &mut Item) {
+        put_event(&x.event, out);
     }
 }
 
@@ -99,8 +123,8 @@ impl Printer for TickerWants {
         }
     }
 
-    fn item(x: &Want) -> Item {
-        Item::Sub(x.key)
+    fn put(x: &Want, out: &mut Item) {
+        *out = Item::Sub(x.key);
     }
 }
 
@@ -121,8 +145,8 @@ impl Printer for StreamWants {
         }
     }
 
-    fn item(x: &Want) -> Item {
-        Item::Sub(x.key)
+    fn put(x: &Want, out: &mut Item) {
+        *out = Item::Sub(x.key);
     }
 }
 
@@ -142,10 +166,10 @@ impl Printer for HistoryWants {
         }
     }
 
-    fn item(x: &Want) -> Item {
+    fn put(x: &Want, out: &mut Item) {
         match x.total {
-            None => Item::Sub(x.key),
-            Some(limit) => Item::HistSub(Sub { key: x.key, limit }),
+            None => *out = Item::Sub(x.key),
+            Some(limit) => *out = Item::HistSub(Sub { key: x.key, limit }),
         }
     }
 }
