@@ -31,7 +31,12 @@ fn end_after(turn: InTurn) -> Option<InEnd>
     }
 }
 
-/// Steps the engine of a link, and rings where the step was to make a call.
+/// Whether another caller had a turn.
+fn is_busy(turn: &InTurn) -> bool {
+    matches!(turn, InTurn::Busy { first: _, then: _, })
+}
+
+/// Steps the engine of a link, and rings where the step made a call.
 fn read_step<R: Wait, H: Hub, S: Source, B: Bell>(
     rt: &R,
     scheme: &Scheme,
@@ -52,7 +57,7 @@ fn read_step<R: Wait, H: Hub, S: Source, B: Bell>(
 {
     let calling = engine.is_calling();
     let turn = engine.step(scheme, hub, source);
-    if calling {
+    if calling && !is_busy(&turn) {
         bell.ring(rt);
     }
     end_after(turn)
