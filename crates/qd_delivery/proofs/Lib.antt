@@ -1,0 +1,3 @@
+pub mod LogParts
+pub mod HistoryParts
+pub mod Delivered

@@ -1,0 +1,5 @@
+pub mod Putting
+pub mod Sorts
+pub mod Heads
+pub mod Reading
+pub mod Passes

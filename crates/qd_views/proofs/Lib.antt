@@ -1,0 +1,11 @@
+pub mod Lists
+pub mod PutLists
+pub mod ActKinds
+pub mod PendingActs
+pub mod Steady
+pub mod TickerActs
+pub mod TickerViews
+pub mod Accounting
+pub mod StreamActs
+pub mod StreamViews
+pub mod HistoryViews
