@@ -1,0 +1,4 @@
+pub mod Homes
+pub mod Printing
+pub mod Serving
+pub mod Steps
