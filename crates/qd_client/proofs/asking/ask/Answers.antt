@@ -37,4 +37,4 @@ returns g c =
     c.if-not-say_wants.ensures c.if-not-say-2.ensures in
     let all = printed_more true (line_of defs Protocol) (wants ++ last) [] c.say.new.out c.say-2.new.out (g.K.Sink.written c.args.sink.now) (g.K.Sink.written c.say.new.sink) (g.K.Sink.written c.say-2.new.sink) (g.K.Sink.faults c.args.sink.now) (g.K.Sink.faults c.say.new.sink) (g.K.Sink.faults c.say-2.new.sink)
     (rw c.new-out.ensures at c.if-not-say.ensures) rest in
-    drained c.drain.result (asked defs c.args.collector c.args.wants.now) c.say-2.new.out c.drain.new.self (g.K.Sink.written c.args.sink.now) (g.K.Sink.written c.say-2.new.sink) (g.K.Sink.written c.drain.new.sink) (g.K.Sink.flushed c.drain.new.sink) (g.K.Sink.faults c.args.sink.now) (g.K.Sink.faults c.say-2.new.sink) (g.K.Sink.faults c.drain.new.sink) all c.drain.ensures
+    drained c.drain.result (asked defs c.args.collector c.args.wants.now) c.say-2.new.out c.drain.new.self (g.K.Sink.written c.args.sink.now) (g.K.Sink.written c.say-2.new.sink) (g.K.Sink.written c.drain.new.sink) (g.K.Sink.flushed c.drain.new.sink) (g.K.Sink.faults c.args.sink.now) (g.K.Sink.faults c.say-2.new.sink) (g.K.Sink.faults c.drain.new.sink) all c.drain.ensures.drains
