@@ -5,3 +5,4 @@ mod Rows
 pub mod ScriptWords
 pub mod CutLaws
 mod NetRows
+mod ServeRows

@@ -4,3 +4,4 @@ pub mod Given
 pub mod Scripts
 pub mod Cutting
 pub mod NetAsking
+pub mod ServeAsking

@@ -1,5 +1,5 @@
 -- What words ask of a server: `post ADDR [FILE]`, or `dump ADDR COLLECTOR WANT.. --count N`.
-use Rattle.std.specs.Prelude.{ℕ, ◌-◌, ◌^◌, ◌==◌, ◌||◌, ◌&&◌, if◌then◌else◌, Bool, true, List, [], ◌∷◌, map, codes, Option, Some, None, option_map}
+use Rattle.std.specs.Prelude.{ℕ, ◌<◌, ◌-◌, ◌^◌, ◌==◌, ◌||◌, ◌&&◌, if◌then◌else◌, Bool, true, false, List, [], ◌∷◌, map, codes, Option, Some, None, option_map, is_some}
 use Rattle.std.specs.Result.{result_ok}
 use Rattle.qd_scheme.specs.Symbols.{symbol_of}
 use Rattle.qd_grammar.specs.declared.item.Collector.{Collector}
@@ -53,6 +53,11 @@ net_command_of word =
     if same_text word (codes "post") then Some commands.Post else
     if same_text word (codes "dump") then Some commands.Dump else
     None
+
+-- the first word names a command that speaks with a server
+abbrev pub is_net : List (List ℕ) → Bool
+is_net [] = false
+is_net (word ∷ words) = is_some (net_command_of word)
 
 -- a command takes the option of this name
 abbrev pub takes : NetCommand → List ℕ → Bool
@@ -166,3 +171,8 @@ dumped a = record { addr = a.addr.now; collector = a.collector; wants = map want
 abbrev pub net_asked : NetAsk → NetAsked
 net_asked (asks.Post a) = Post (posted a)
 net_asked (asks.Dump a) = Dump (dumped a)
+
+-- an item at least is awaited
+abbrev pub HasCount : NetAsk → Type 0
+HasCount (asks.Post a) = Unit {0}
+HasCount (asks.Dump a) = 0 < a.count

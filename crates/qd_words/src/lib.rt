@@ -8,7 +8,8 @@
 //! `--stripes N`, which is 1, 2, 4, 8 or 16. `gen` takes two numbers and no option, and [`script_ask_of`] reads its words
 //! (`specs/Scripts.antt`).
 //!
-//! `post` and `dump` speak with a server: [`net_ask_of`] reads their words (`specs/NetAsking.antt`).
+//! `post` and `dump` speak with a server: [`net_ask_of`] reads their words (`specs/NetAsking.antt`). `serve` is one:
+//! [`serve_ask_of`] (`specs/ServeAsking.antt`).
 #![tactic(auto)]
 
 mod ask;
@@ -19,11 +20,15 @@ mod net_ask;
 mod net_reading;
 mod reading;
 mod script;
+mod serve_ask;
+mod serve_reading;
 mod values;
 
 pub use ask::{Ask, Command};
 pub use laws::{any_order, any_order_of_a_server, value_behind_equals};
 pub use net_ask::{DumpAsk, NetAsk, PostAsk, WantAsk};
-pub use net_reading::net_ask_of;
+pub use net_reading::{is_net, net_ask_of};
 pub use reading::ask_of;
 pub use script::{ScriptAsk, script_ask_of};
+pub use serve_ask::ServeAsk;
+pub use serve_reading::serve_ask_of;

@@ -1,9 +1,9 @@
 //! The words of the commands that speak with a server.
 
-ghost use Rattle.std.specs.Prelude.{◌≡◌, ◌∷◌, [], map, string_bytes, option_map, option_and_then, IfOk, IfSome};
+ghost use Rattle.std.specs.Prelude.{◌≡◌, ◌<◌, ◌∷◌, [], map, string_bytes, option_map, option_and_then, IfOk, IfSome};
 ghost use Rattle.qd_words.specs.Words.{arguments, before_byte, behind_byte};
 ghost use Rattle.qd_words.specs.Cutting.{argument_of, arguments_of};
-ghost use Rattle.qd_words.specs.NetAsking.{asks_net, net_asked, net_asked_by, net_command_of, takes, takes_all, post_of, dump_of, dump_with, dump_values, shown_values, posted, wanted, collector_of, want_of, some_wants, awaited, limit_of};
+ghost use Rattle.qd_words.specs.NetAsking.{asks_net, net_asked, net_asked_by, net_command_of, takes, takes_all, post_of, dump_of, dump_with, dump_values, shown_values, posted, wanted, collector_of, want_of, some_wants, awaited, limit_of, HasCount, is_net};
 ghost use Rattle.qd_words.specs.NetAsking.NetAsked.{Dump};
 
 use crate::cutting::{Argument, arguments, positional, value_for};
@@ -19,7 +19,8 @@ const GREATEST: u64 = (1 << 63) - 1;
 /// What the words ask of a server; none where they ask for nothing that is known. An `Err` is want of memory.
 #[tactic(auto, unfolding(crate::specs::NetAsking::asks_net))]
 pub fn net_ask_of(alloc: Global, words: &Vec<String>) -> Result<Option<NetAsk<'_>>, AllocError>
-    ensures { IfOk result (λ ask. option_map net_asked ask ≡ asks_net (map string_bytes words.now.items)) }
+    ensures asked { IfOk result (λ ask. option_map net_asked ask ≡ asks_net (map string_bytes words.now.items)) }
+    ensures count { IfOk result (λ ask. IfSome ask HasCount) }
 {
     match words.as_slice() {
         [] => Ok(None),
@@ -36,7 +37,8 @@ fn asked_by<'a>(
     command: NetCommand,
     words: &'a [String],
 ) -> Result<Option<NetAsk<'a>>, AllocError>
-    ensures { IfOk result (λ ask. option_map net_asked ask ≡ option_and_then (net_asked_by command) (arguments (map string_bytes words.now))) }
+    ensures asked { IfOk result (λ ask. option_map net_asked ask ≡ option_and_then (net_asked_by command) (arguments (map string_bytes words.now))) }
+    ensures count { IfOk result (λ ask. IfSome ask HasCount) }
 {
     match arguments(alloc, words)? {
         Some(arguments) => asked_with(alloc, command, arguments.as_slice()),
@@ -50,7 +52,8 @@ fn asked_with<'a>(
     command: NetCommand,
     arguments: &[Argument<'a>],
 ) -> Result<Option<NetAsk<'a>>, AllocError>
-    ensures { IfOk result (λ ask. option_map net_asked ask ≡ net_asked_by command (arguments_of arguments.now)) }
+    ensures asked { IfOk result (λ ask. option_map net_asked ask ≡ net_asked_by command (arguments_of arguments.now)) }
+    ensures count { IfOk result (λ ask. IfSome ask HasCount) }
 {
     if !takes_all(command, arguments) {
         return Ok(None);
@@ -119,7 +122,8 @@ fn dump_of<'a>(
     arguments: &[Argument<'a>],
     words: &[&'a str],
 ) -> Result<Option<NetAsk<'a>>, AllocError>
-    ensures { IfOk result (λ ask. option_map net_asked ask ≡ option_map Dump (dump_of (arguments_of arguments.now) (map (λ s. s.now) words.now))) }
+    ensures asked { IfOk result (λ ask. option_map net_asked ask ≡ option_map Dump (dump_of (arguments_of arguments.now) (map (λ s. s.now) words.now))) }
+    ensures count { IfOk result (λ ask. IfSome ask HasCount) }
 {
     match words {
         [addr, collector, words @ ..] => match (collector_of(collector), dump_values(arguments)) {
@@ -138,7 +142,9 @@ fn dump_with<'a>(
     values: DumpValues<'a>,
     words: &[&'a str],
 ) -> Result<Option<NetAsk<'a>>, AllocError>
-    ensures { IfOk result (λ ask. option_map net_asked ask ≡ option_map (λ wants. Dump (dump_with addr.now collector (shown_values values.entry) wants)) (some_wants (map (λ s. s.now) words.now))) }
+    requires { 0 < values.count }
+    ensures asked { IfOk result (λ ask. option_map net_asked ask ≡ option_map (λ wants. Dump (dump_with addr.now collector (shown_values values.entry) wants)) (some_wants (map (λ s. s.now) words.now))) }
+    ensures count { IfOk result (λ ask. IfSome ask HasCount) }
 {
     match some_wants(alloc, words) {
         Err(e) => Err(e),
@@ -163,7 +169,8 @@ struct DumpValues<'a> {
 }
 
 fn dump_values<'a>(arguments: &[Argument<'a>]) -> Option<DumpValues<'a>>
-    ensures { option_map shown_values result ≡ dump_values (arguments_of arguments.now) }
+    ensures values { option_map shown_values result ≡ dump_values (arguments_of arguments.now) }
+    ensures count { IfSome result (λ values. 0 < values.count) }
 {
     let scheme = value_for(arguments, b"--scheme")?;
     let count = awaited(value_for(arguments, b"--count")?)?;
@@ -178,6 +185,7 @@ fn dump_values<'a>(arguments: &[Argument<'a>]) -> Option<DumpValues<'a>>
 /// How many items are awaited: at least one, and it has to be said.
 fn awaited(given: Option<&str>) -> Option<u64>
     ensures count { result ≡ awaited (option_map (λ s. s.now) given.entry) }
+    ensures some { IfSome result (λ count. 0 < count) }
 {
     match count_of(given?, GREATEST)? {
         0 => None,
@@ -248,6 +256,16 @@ fn collector_of(word: &str) -> Option<Collector>
         Some(Collector::History)
     } else {
         None
+    }
+}
+
+/// Whether words name a command that speaks with a server.
+pub fn is_net(words: &Vec<String>) -> bool
+    ensures { result ≡ is_net (map string_bytes words.now.items) }
+{
+    match words.as_slice() {
+        [] => false,
+        [first, ..] => net_command_of(first.as_str()).is_some(),
     }
 }
 

@@ -63,7 +63,7 @@ fn asked_by(command: Command, given: Given<'_>) -> Option<Ask<'_>>
 }
 
 /// The size that an option gives a command.
-fn size_for(command: Command, given: Option<&str>) -> Option<u16>
+pub fn size_for(command: Command, given: Option<&str>) -> Option<u16>
     ensures size { result ≡ size_for command (option_map (λ s. s.now) given.entry) }
     ensures within { IfSome result IsSize }
 {
@@ -86,7 +86,7 @@ fn size_of(word: &str) -> Option<u16>
 }
 
 /// The number of stripes that an option gives a command.
-fn stripes_for(command: Command, given: Option<&str>) -> Option<u8>
+pub fn stripes_for(command: Command, given: Option<&str>) -> Option<u8>
     ensures stripes { result ≡ stripes_for command (option_map (λ s. s.now) given.entry) }
     ensures within { IfSome result IsStripeCount }
 {

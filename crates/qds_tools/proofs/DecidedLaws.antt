@@ -19,30 +19,30 @@ use Rattle.qd_words.specs.Asking.{Asked}
 use Rattle.qd_words.specs.declared.ask.Command.{Command}
 use Rattle.qd_words.specs.declared.ask.Command.TheVariants.{Check, Fmt, Replay}
 use Rattle.qds_tools.specs.declared.program_end.ProgramEnd.{ProgramEnd}
-use Rattle.qds_tools.specs.declared.program_end.ProgramEnd.TheVariants.{Usage, Refused, Ran}
+use Rattle.qds_tools.specs.declared.program_end.ProgramEnd.TheVariants.{Usage, Refused, Ran, NetFault}
 use Rattle.qds_tools.specs.Commands.{Setting, setting_of, RunsBy, LeadsTo}
 use Rattle.qds_tools.specs.Program.{World, IsReadOn, SchemeComes, RunsOn, Ends, HasText, IsScheme, IsText, NoFault}
 use Rattle.qds_tools.specs.Statuses.{status_of, Reports}
 
 -- what is left of a file that was opened, where that is told
-opened_text : (name bytes : List ℕ) (before opened : FilesState) → OpensIn true name before opened → HasText before name bytes → opened.left ≡ Some bytes
+pub opened_text : (name bytes : List ℕ) (before opened : FilesState) → OpensIn true name before opened → HasText before name bytes → opened.left ≡ Some bytes
 opened_text name bytes before opened o (holds, h, b) =
     subst (λ (x : Option (List ℕ)). LeftOf x opened.left) b (subst (λ (x : Option (List ℕ → Option (List ℕ))). IsHeld x name opened.left) h o.1)
 
-opened_faults : (name : List ℕ) (before opened : FilesState) → OpensIn true name before opened → opened.read_faults ≡ before.read_faults
+pub opened_faults : (name : List ℕ) (before opened : FilesState) → OpensIn true name before opened → opened.read_faults ≡ before.read_faults
 opened_faults name before opened o = ap (λ (t : FilesState). t.read_faults) o.0
 
-opened_holds : (name : List ℕ) (before opened : FilesState) → OpensIn true name before opened → opened.holds ≡ before.holds
+pub opened_holds : (name : List ℕ) (before opened : FilesState) → OpensIn true name before opened → opened.holds ≡ before.holds
 opened_holds name before opened o = ap (λ (t : FilesState). t.holds) o.0
 
-read_holds : (before after : FilesState) → IsReadOn before after → after.holds ≡ before.holds
+pub read_holds : (before after : FilesState) → IsReadOn before after → after.holds ≡ before.holds
 read_holds before after e = ap (λ (t : FilesState). t.holds) e
 
-same_text : (name bytes : List ℕ) (before after : FilesState) → after.holds ≡ before.holds → HasText before name bytes → HasText after name bytes
+pub same_text : (name bytes : List ℕ) (before after : FilesState) → after.holds ≡ before.holds → HasText before name bytes → HasText after name bytes
 same_text name bytes before after e (holds, h, b) = (holds, e ∙ h, b)
 
 -- a scheme that came is the one that is told
-scheme_is : (name : Option (List ℕ)) (defs : List RecordDef) (other : Result (List RecordDef) NoScheme) (before after : FilesState) → SchemeComes name (Ok defs) before after → IsScheme name before other → Ok defs ≡ other
+pub scheme_is : (name : Option (List ℕ)) (defs : List RecordDef) (other : Result (List RecordDef) NoScheme) (before after : FilesState) → SchemeComes name (Ok defs) before after → IsScheme name before other → Ok defs ≡ other
 scheme_is None defs other before after c i = ap (λ (d : List RecordDef). Ok d) c.0 ∙ sym i
 scheme_is (Some name) defs other before after (inl (opened, o, e, r)) (bytes, h, d) =
     let left = opened_text name bytes before opened o h in
@@ -50,18 +50,18 @@ scheme_is (Some name) defs other before after (inl (opened, o, e, r)) (bytes, h,
 scheme_is (Some name) defs other before after (inr (o, e)) i = absurd (cc)
 
 -- it leaves the counts of faults, and what the names hold
-scheme_faults : (name : Option (List ℕ)) (defs : List RecordDef) (before after : FilesState) → SchemeComes name (Ok defs) before after → after.read_faults ≡ before.read_faults
+pub scheme_faults : (name : Option (List ℕ)) (defs : List RecordDef) (before after : FilesState) → SchemeComes name (Ok defs) before after → after.read_faults ≡ before.read_faults
 scheme_faults None defs before after c = ap (λ (t : FilesState). t.read_faults) c.1
 scheme_faults (Some name) defs before after (inl (opened, o, e, r)) = e.cause.1 ∙ opened_faults name before opened o
 scheme_faults (Some name) defs before after (inr (o, e)) = absurd (cc)
 
-scheme_holds : (name : Option (List ℕ)) (defs : List RecordDef) (before after : FilesState) → SchemeComes name (Ok defs) before after → after.holds ≡ before.holds
+pub scheme_holds : (name : Option (List ℕ)) (defs : List RecordDef) (before after : FilesState) → SchemeComes name (Ok defs) before after → after.holds ≡ before.holds
 scheme_holds None defs before after c = ap (λ (t : FilesState). t.holds) c.1
 scheme_holds (Some name) defs before after (inl (opened, o, e, r)) = read_holds opened after r ∙ opened_holds name before opened o
 scheme_holds (Some name) defs before after (inr (o, e)) = absurd (cc)
 
 -- a scheme that was refused is so by what is told
-refused_is : (name : Option (List ℕ)) (why : NoScheme) (other : Result (List RecordDef) NoScheme) (before after : FilesState) → SchemeComes name (Err why) before after → IsScheme name before other → (Rose before.read_faults after.read_faults → ⊥)
+pub refused_is : (name : Option (List ℕ)) (why : NoScheme) (other : Result (List RecordDef) NoScheme) (before after : FilesState) → SchemeComes name (Err why) before after → IsScheme name before other → (Rose before.read_faults after.read_faults → ⊥)
     → (Err why ≡ other) ⊎ (why ≡ schemes.NoMemory)
 refused_is None why other before after c i sound = inr c.0
 refused_is (Some name) why other before after (inl (opened, o, e, r)) (bytes, h, d) sound =
@@ -114,6 +114,7 @@ pub run_decided : (ask : Asked) (defs : List RecordDef) (text : List ℕ) (print
     → Ends ask end o w → IsScheme ask.scheme o.files (Ok defs) → LeadsTo ask.command (setting_of ask defs) text other printed → IsText ask.file o text → NoFault o w
     → ((end ≡ Ran other) × IfSome printed (Gained o.written w.written)) ⊎ (status_of end ≡ 5)
 run_decided ask defs text printed other Usage o w e s l t n = absurd e
+run_decided ask defs text printed other NetFault o w e s l t n = absurd e
 run_decided ask defs text printed other (Refused why) o w e s l t n = go (refused_is ask.scheme why (Ok defs) o.files w.files e.0 s n.0)
   where
     go : (◌≡◌ {A = Result (List RecordDef) NoScheme} (Err why) (Ok defs)) ⊎ (why ≡ schemes.NoMemory) → ((Refused why ≡ Ran other) × IfSome printed (Gained o.written w.written)) ⊎ (status_of (Refused why) ≡ 5)
@@ -135,6 +136,7 @@ run_decided ask defs text printed other (Ran end) o w (came, files, c, r) s l t 
 -- a scheme file that is refused is told, where no fault is counted
 pub refusal_decided : (ask : Asked) (why : NoScheme) (end : ProgramEnd) (o w : World) → Ends ask end o w → IsScheme ask.scheme o.files (Err why) → NoFault o w → (end ≡ Refused why) ⊎ (status_of end ≡ 5)
 refusal_decided ask why Usage o w e s n = absurd e
+refusal_decided ask why NetFault o w e s n = absurd e
 refusal_decided ask why (Refused other) o w e s n = go (refused_is ask.scheme other (Err why) o.files w.files e.0 s n.0)
   where
     go : (◌≡◌ {A = Result (List RecordDef) NoScheme} (Err other) (Err why)) ⊎ (other ≡ schemes.NoMemory) → (Refused other ≡ Refused why) ⊎ (status_of (Refused other) ≡ 5)

@@ -14,7 +14,7 @@ use Rattle.qd_scheme.specs.declared.faults.SchemeWhy.TheVariants.{TooManyRecords
 use Rattle.qd_scheme_file.specs.declared.no_scheme.NoScheme.{NoScheme}
 use Rattle.qd_scheme_file.specs.declared.no_scheme.NoScheme.TheVariants as schemes
 use Rattle.qds_tools.specs.declared.program_end.ProgramEnd.{ProgramEnd}
-use Rattle.qds_tools.specs.declared.program_end.ProgramEnd.TheVariants.{Usage, Refused, Ran}
+use Rattle.qds_tools.specs.declared.program_end.ProgramEnd.TheVariants.{Usage, Refused, Ran, NetFault}
 
 -- the name of a number's fault
 abbrev pub number_name : DecFault → List ℕ
@@ -87,3 +87,4 @@ abbrev pub fault_line : ProgramEnd → List ℕ
 fault_line Usage = plain_line (codes "usage")
 fault_line (Refused why) = scheme_line why
 fault_line (Ran end) = run_line end
+fault_line NetFault = plain_line (codes "net fault")

@@ -13,7 +13,7 @@ use Rattle.qd_scheme_file.specs.Ends.{Ends as FileEnds, Decides as FileDecides}
 use Rattle.qd_words.specs.Asking.{Asked}
 use Rattle.qd_words.specs.declared.ask.Command.{Command}
 use Rattle.qds_tools.specs.declared.program_end.ProgramEnd.{ProgramEnd}
-use Rattle.qds_tools.specs.declared.program_end.ProgramEnd.TheVariants.{Usage, Refused, Ran}
+use Rattle.qds_tools.specs.declared.program_end.ProgramEnd.TheVariants.{Usage, Refused, Ran, NetFault}
 use Rattle.qds_tools.specs.Commands.{Setting, setting_of, RunsBy}
 
 -- what is told outside: by the files, of standard input and of standard output
@@ -71,6 +71,7 @@ RunsOn command set (Some name) end o w = FileRuns command set name end o.files w
 -- how what was asked ended: the scheme comes first, then the run over the text; where the scheme is refused, no text is read and nothing is written
 abbrev pub Ends : Asked → ProgramEnd → World → World → Type 0
 Ends ask Usage o w = ⊥
+Ends ask NetFault o w = ⊥
 Ends ask (Refused why) o w = SchemeComes ask.scheme (Err why) o.files w.files × IsUnread o w × IsUnwritten o w
 Ends ask (Ran end) o w = (defs : List RecordDef) × (files : FilesState) × SchemeComes ask.scheme (Ok defs) o.files files × RunsOn ask.command (setting_of ask defs) ask.file end (record o { files = files }) w
 

@@ -8,7 +8,7 @@ use Rattle.qd_outside.specs.Writing.{IsWritten, IsCutShort}
 use Rattle.qd_scheme_file.specs.declared.no_scheme.NoScheme.{NoScheme}
 use Rattle.qd_scheme_file.specs.declared.no_scheme.NoScheme.TheVariants as schemes
 use Rattle.qds_tools.specs.declared.program_end.ProgramEnd.{ProgramEnd}
-use Rattle.qds_tools.specs.declared.program_end.ProgramEnd.TheVariants.{Usage, Refused, Ran}
+use Rattle.qds_tools.specs.declared.program_end.ProgramEnd.TheVariants.{Usage, Refused, Ran, NetFault}
 use Rattle.qds_tools.specs.FaultLines.{fault_line}
 
 -- the status of a refused scheme file
@@ -39,6 +39,7 @@ abbrev pub status_of : ProgramEnd → ℕ
 status_of Usage = 2
 status_of (Refused why) = scheme_status why
 status_of (Ran end) = run_status end
+status_of NetFault = 6
 
 -- how the program ends where the words of its command line cannot be had: a word that is no text asks for nothing
 abbrev pub end_without_words : ErrorKind → ProgramEnd

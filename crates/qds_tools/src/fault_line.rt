@@ -42,6 +42,7 @@ fn put_fault(end: ProgramEnd, line: &mut Line)
         ProgramEnd::Usage => put_plain("usage", line),
         ProgramEnd::Refused(why) => put_refused(why, line),
         ProgramEnd::Ran(end) => put_run_end(end, line),
+        ProgramEnd::NetFault => put_plain("net fault", line),
     }
 }
 

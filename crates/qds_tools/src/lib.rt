@@ -15,6 +15,7 @@ mod running;
 mod scripting;
 mod status;
 
-pub use plain::{plain_main, plain_main_seeded, report_no_words, run_main};
+pub use plain::{plain_main, plain_main_seeded, report, report_no_words, run_main};
 pub use program_end::ProgramEnd;
+pub use running::scheme_of;
 pub use status::Status;

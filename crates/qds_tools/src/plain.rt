@@ -172,7 +172,7 @@ pub fn report_no_words<E: Sink>(why: io::Error, err: &mut E) -> Status
 
 /// Tells how the program ended, where a line belongs to the end, and gives its status. A failure to write the line changes
 /// nothing.
-fn report<E: Sink>(end: ProgramEnd, err: &mut E) -> Status
+pub fn report<E: Sink>(end: ProgramEnd, err: &mut E) -> Status
     ensures { Reports end result (E.written err.old) (E.written err.new) (E.flushed err.new) (E.faults err.old) (E.faults err.new) }
 {
     let _ = write_fault(err, end);

@@ -10,4 +10,6 @@ pub enum ProgramEnd {
     Refused(NoScheme),
     /// The command ran, or its text could not be opened.
     Ran(RunEnd),
+    /// A call on the net or on a connection failed.
+    NetFault,
 }

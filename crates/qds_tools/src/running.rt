@@ -38,7 +38,11 @@ pub fn run_asked<F: Files, S: Source, K: Sink>(
 }
 
 /// The scheme: the built-in one where no file is named.
-fn scheme_of<F: Files>(alloc: Global, name: Option<&str>, files: &mut F) -> Result<Scheme, NoScheme>
+pub fn scheme_of<F: Files>(
+    alloc: Global,
+    name: Option<&str>,
+    files: &mut F,
+) -> Result<Scheme, NoScheme>
     ensures { SchemeComes (option_copied name.entry) result (F.told files.old) (F.told files.new) }
 {
     match name {

@@ -37,6 +37,7 @@ impl Status {
             ProgramEnd::Ran(end) => Status {
                 code: run_status(end),
             },
+            ProgramEnd::NetFault => Status { code: 6 },
         }
     }
 
