@@ -22,8 +22,8 @@ TRIED = {
     'qd_ticker': 'tables/ticker.txt random_scripts.py feed_rules.py', 'qd_stream': 'tables/stream.txt random_scripts.py feed_rules.py', 'qd_hist_key': 'tables/history.txt random_history.py',
     'qd_hist_feed': 'tables/history.txt random_history.py', 'qd_history': 'tables/history.txt random_history.py', 'qd_words': 'tables/words.txt tables/runs.txt',
     'qd_scheme_file': 'tables/schemes.txt tables/runs.txt', 'qd_items': 'tables/runs.txt hostile.py', 'qd_check': 'tables/runs.txt hostile.py',
-    'qd_replay': 'tables/scripts.txt hostile.py', 'qds_tools': 'tables/runs.txt cases', 'qds': 'cases live.py hostile.py'}
-TESTS = ('qd_tests', 'qds_tests')
+    'qd_replay': 'tables/scripts.txt hostile.py', 'qds_tools': 'tables/runs.txt cases', 'qds_net': 'cases peers.py', 'qds': 'cases live.py hostile.py'}
+TESTS = ('qd_link_tests', 'qds_net_tests', 'qd_tests', 'qds_tests')
 SHORT, NAMELESS = 70, 'one without a name'
 TEST = re.compile(r'#\[test\]\s*(?:#\[[^\]]*\]\s*)*(?:pub )?fn (?P<name>\w+)')
 

@@ -9,6 +9,7 @@ import documents
 import hostile
 import live
 import order
+import peers
 import random_history
 import random_scripts
 import tables
@@ -22,7 +23,7 @@ found_jobs = []
 
 def jobs():
     """Each is a call that tells how many runs there were and what failed; those that take long first."""
-    return (live.jobs() + random_history.jobs(SEEDS['history']) + random_scripts.jobs(SEEDS['scripts']) + cases.jobs() + tables.jobs()
+    return (live.jobs() + peers.jobs() + random_history.jobs(SEEDS['history']) + random_scripts.jobs(SEEDS['scripts']) + cases.jobs() + tables.jobs()
             + documents.jobs() + hostile.jobs(SEEDS['hostile']))
 
 
